@@ -1,0 +1,5 @@
+pub mod Ranges
+pub mod Steps
+pub mod Arena
+pub mod Lawful
+pub mod Flat
