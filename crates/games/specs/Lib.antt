@@ -1,0 +1,5 @@
+pub mod Search
+pub mod Passes
+pub mod Regions
+pub mod Verdicts
+pub mod GroundColumns

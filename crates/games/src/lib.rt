@@ -1,0 +1,7 @@
+// What the ground and the plans can force in an arena: one staged search, and what it finds.
+mod moves;
+mod rule;
+mod rules;
+mod search;
+mod states;
+pub mod verdict;
