@@ -3,3 +3,5 @@ pub mod Pass
 pub mod Rows
 pub mod RuleLaws
 pub mod StageLaws
+pub mod TableLaws
+pub mod Written

@@ -3,3 +3,4 @@ pub mod Passes
 pub mod Regions
 pub mod Verdicts
 pub mod GroundColumns
+pub mod Tables

@@ -1,7 +1,10 @@
 // What the ground and the plans can force in an arena: one staged search, and what it finds.
+mod copy;
 mod moves;
 mod rule;
 mod rules;
 mod search;
 mod states;
+mod table;
+mod tabulate;
 pub mod verdict;
