@@ -1,5 +1,6 @@
 pub mod CountLaws
 pub mod Pass
+pub mod RegionLaws
 pub mod Rows
 pub mod RuleLaws
 pub mod StageLaws

@@ -1,5 +1,5 @@
 -- When a table's lists tell an arena.
-use mathlib.Core.Path.{_≡_, refl, sym, _∙_, ap, fun-ext}
+use mathlib.Core.Path.{_≡_, refl, sym, _∙_, ap, subst, fun-ext}
 use mathlib.Core.Bool.{Bool, true, false, cond, _&&_}
 use mathlib.Core.List.{List, [], _∷_}
 use mathlib.Core.Logic.{_⊎_, inl, inr, ⊎-elim}
@@ -11,11 +11,12 @@ use lib.Pow.{pow-mono}
 use Rattle.std.specs.declared.option.Option.{Option}
 use Rattle.std.specs.declared.option.Option.the-variants.{None, Some}
 use Rattle.std.proofs.shelf.Bits.{div-mul-add, mod-mul-add}
-use Rattle.std.proofs.shelf.Tests.{cases-lt, le-ltb, lt-ltb, le-leb, lt-leb, and-left, and-right, and-from, cond-true, cond-false}
+use Rattle.std.proofs.shelf.Tests.{cases-lt, le-ltb, lt-ltb, le-leb, lt-leb, and-left, and-right, and-from, cond-true, cond-false, cases-bool, ltb-true}
 use Rattle.automata.specs.Arena.{Arena}
 use Rattle.automata.specs.Lawful.{Lawful-arena}
 use Rattle.automata.specs.Steps.{Inside, named, onward}
-use Rattle.games.specs.Tables.{tabled, lone}
+use Rattle.games.specs.declared.table.Table.{Table}
+use Rattle.games.specs.Tables.{tabled, table-arena, lone}
 
 pub getD-replicate : {X : Type 0} (n : ℕ) (v : X) (i : ℕ) → getD (replicate n v) i v ≡ v
 getD-replicate zero v i = refl
@@ -137,3 +138,30 @@ tells-lone {duty} {marks} {steps} ed em et =
       marks-at = λ i l. ap (λ (xs : List Bool). getD xs i false) em ∙ getD-replicate 1024 false i;
       steps-at = λ i l. ap (λ (xs : List (Option ℕ)). getD xs i None) et ∙ getD-replicate 16384 None i
     }) 0 0 1 0 0 refl refl refl refl refl
+
+-- what a table tells is lawful
+tabled-inside : (n : ℕ) (test : Bool) (o : Option ℕ) → Inside n (cond test (onward o None (named n)) None)
+tabled-inside n false o = tt
+tabled-inside n true None = tt
+tabled-inside n true (Some t) = go (cases-bool (ltb t n))
+  where
+    go : (ltb t n ≡ true) ⊎ (ltb t n ≡ false) → Inside n (named n t)
+    go (inl e) = subst (Inside n) (sym (cond-true (ltb t n) (Some t) None e)) (ltb-true t n e)
+    go (inr e) = subst (Inside n) (sym (cond-false (ltb t n) (Some t) None e)) tt
+
+pub table-lawful : (t : Table) → Lawful-arena (table-arena t)
+table-lawful t =
+    let n = t .count in
+    let xs = 2 ^ t .«reading_bits» in
+    let ys = 2 ^ t .«command_bits» in
+    record {
+      few-reading-bits = t .«narrow_readings»; few-command-bits = t .«narrow_commands»; few-rights = t .«few_rights»; few-states = t .«few_states»; start-inside = t .«start_inside»;
+      step-inside = λ q x y. tabled-inside n (ltb q n && ltb x xs && ltb y ys) _;
+      state-outside = λ q x y l. cond-false _ _ None (and-left (ltb q n && ltb x xs) _ (and-left (ltb q n) _ (le-ltb q n l)));
+      reading-outside = λ q x y l. cond-false _ _ None (and-left (ltb q n && ltb x xs) _ (and-right (ltb q n) _ (le-ltb x xs l)));
+      command-outside = λ q x y l. cond-false _ _ None (and-right (ltb q n && ltb x xs) _ (le-ltb y ys l));
+      mark-outside = λ q l. and-left (ltb q n) _ (le-ltb q n l);
+      no-zeroth = λ q. refl;
+      right-outside = λ i q l. and-left (leb 1 i && leb i (t .rights) && ltb q n) _ (and-left (leb 1 i && leb i (t .rights)) _ (and-right (leb 1 i) _ (lt-leb i (t .rights) l)));
+      right-state-outside = λ i q l. and-left (leb 1 i && leb i (t .rights) && ltb q n) _ (and-right (leb 1 i && leb i (t .rights)) _ (le-ltb q n l))
+    }

@@ -4,3 +4,4 @@ pub mod Regions
 pub mod Verdicts
 pub mod GroundColumns
 pub mod Tables
+pub mod Found

@@ -1,6 +1,7 @@
 // What the ground and the plans can force in an arena: one staged search, and what it finds.
 mod copy;
 mod moves;
+mod regions;
 mod rule;
 mod rules;
 mod search;
