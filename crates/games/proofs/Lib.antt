@@ -3,6 +3,8 @@ pub mod Pass
 pub mod RegionLaws
 pub mod Rows
 pub mod RuleLaws
+pub mod SettledLaws
+pub mod SolverLaws
 pub mod StageLaws
 pub mod TableLaws
 pub mod Written

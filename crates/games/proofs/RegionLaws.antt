@@ -12,7 +12,7 @@ use Rattle.std.proofs.shelf.Tests.{cases-lt, le-ltb, lt-ltb, and-left, eq-eqb, 
 use Rattle.automata.specs.Ranges.{all, any, least}
 use Rattle.automata.specs.Arena.{Arena}
 use Rattle.automata.specs.Lawful.{Lawful-arena}
-use Rattle.automata.proofs.RangeLaws.{T-eq, T-true, false-T, all-mk, any-mk, least-bound}
+use Rattle.automata.proofs.RangeLaws.{T-eq, T-true, false-T, and-l, or-case, all-mk, any-mk, least-bound}
 use Rattle.games.specs.Search.{stage, rank-of, Ranks}
 use Rattle.games.specs.Regions.{nowhere, breaks, broken, unbroken, lawful-by, forces-by, forces, right-column, fence, stages, ranked, rank}
 use Rattle.games.specs.Found.{Broken-found, Column-found, Rights-found}
@@ -83,7 +83,7 @@ module _ (A : Arena) (L : Lawful-arena A) where
         where
           go : (q < A .n) ⊎ (A .n ≤ q) → fenced-in q ≡ fence A q
           go (inl l) = ap₂ _&&_ (unranked-at q) (all-same (A .k) _ _ (λ j h.
-              ap not (ap (λ v. eqb v 65535) (fenced j q h l) ∙ rank-lacks-in (suc j) q) ∙ not-not (right-column A (suc j) (A .n) q)))
+              ap not (ap (λ v. eqb v 65535) (fenced j q (h, l)) ∙ rank-lacks-in (suc j) q) ∙ not-not (right-column A (suc j) (A .n) q)))
           go (inr l) =
               let e = ap not (broken-outside q l) in
               and-left (unranked q) _ (unranked-at q ∙ e) ∙ sym (and-left (unbroken A q) _ e)
@@ -102,3 +102,26 @@ module _ (A : Arena) (L : Lawful-arena A) where
           let U : un n ≡ unbroken A = ap un en ∙ unranked-is in
           let F : fe n k ≡ fence A = ap₂ fe en ek ∙ fenced-is in
           subst₂ Rule U F r .rank
+
+-- a column has only states of its set
+stage-in : (R M : ℕ → Bool) (J : (ℕ → Bool) → ℕ → Bool) (r q : ℕ) → T (stage (λ q. R q && M q) (λ S q. R q && J S q) r q) → T (R q)
+stage-in R M J zero q t = and-l (R q) (M q) t
+stage-in R M J (suc r) q t = go (or-case (stage (λ q. R q && M q) (λ S q. R q && J S q) r q) _ t) (stage-in R M J r q)
+  where
+    go : T (stage (λ q. R q && M q) (λ S q. R q && J S q) r q) ⊎ T (R q && J (stage (λ q. R q && M q) (λ S q. R q && J S q) r) q) →
+        (T (stage (λ q. R q && M q) (λ S q. R q && J S q) r q) → T (R q)) → T (R q)
+    go (inl s) ih = ih s
+    go (inr s) ih = and-l (R q) _ s
+
+module _ (A : Arena) (L : Lawful-arena A) where
+  pub ranked-unbroken : (i q : ℕ) → T (ranked A i q) → T (unbroken A q)
+  ranked-unbroken zero q t = and-l (unbroken A q) _ (stage-in (fence A) (A .marked) (forces A) (A .n) q t)
+  ranked-unbroken (suc j) q t = stage-in (unbroken A) (λ q. A .marked q && A .right (suc j) q) (forces A) (A .n) q t
+
+  ranked-lacks : (i q : ℕ) → (T (ranked A i q) → ⊥) → rank A i q ≡ 65535
+  ranked-lacks zero q f = rank-unranked (A .n) _ (λ S q. fence A q && forces A S q) q f
+  ranked-lacks (suc j) q f = rank-unranked (A .n) _ (λ S q. unbroken A q && forces A S q) q f
+
+  -- a state out of range has no rank
+  pub rank-outside : (i q : ℕ) → A .n ≤ q → rank A i q ≡ 65535
+  rank-outside i q l = ranked-lacks i q (λ t. false-T _ (ap not (broken-outside A L q l)) (ranked-unbroken i q t))

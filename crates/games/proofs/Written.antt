@@ -5,7 +5,10 @@ use mathlib.Core.Logic.{⊎-elim}
 use Prim.Native.Nat.{ℕ, _+_, _-_, _<_, _≤_}
 use native.Mathlib.Omega.{arith}
 use lib.ListN.{length, getD, set, take}
-use Rattle.std.proofs.shelf.Lists.{getD-set-same, getD-set-other, getD-append-left, getD-append-right, length-take, getD-take}
+use Rattle.std.proofs.shelf.Lists.{getD-set-same, getD-set-other, getD-append-left, getD-append-right, length-take, getD-take, refilled-is}
+use Rattle.std.specs.Changed.{refilled}
+use Rattle.std.specs.declared.vec.Vec.{Vec}
+use Rattle.std.specs.declared.alloc.Global.{Global}
 use borrow.Rule.Slice.PartMut.{putMid, postOf}
 use Rattle.std.proofs.shelf.Tests.{cases-eq}
 
@@ -26,3 +29,7 @@ pub put-inside : (a k : ℕ) (old xs : List ℕ) (q : ℕ) → q < length xs →
 put-inside a k old xs q l h =
     let e : length (take a old) ≡ a = simp length-take (omega arith) in
     getD-append-right (take a old) _ a (a + q) 0 e (omega arith) ∙ ap (λ (z : ℕ). getD (xs ++ postOf a k old) z 0) (omega arith) ∙ getD-append-left xs _ 0 q l
+
+-- an element of a Vec that was lent whole and written
+pub refilled-at : (v : Vec ℕ Global) (ws : List ℕ) (i : ℕ) → length ws ≡ v .len → getD (refilled v ws .items) i 0 ≡ getD ws i 0
+refilled-at v ws i e = ap (λ (l : List ℕ). getD l i 0) (refilled-is v ws e)

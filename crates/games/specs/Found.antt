@@ -17,4 +17,4 @@ Column-found A i ranks = (q : ℕ) → q < A .n → getD ranks q 0 ≡ rank A i 
 
 -- the ranks of the columns 1 to m, 256 places to a column
 abbrev pub Rights-found : Arena → ℕ → List ℕ → Type 0
-Rights-found A m ranks = (j q : ℕ) → j < m → q < A .n → getD ranks (j * 256 + q) 0 ≡ rank A (suc j) q
+Rights-found A m ranks = (j q : ℕ) → (j < m) × (q < A .n) → getD ranks (j * 256 + q) 0 ≡ rank A (suc j) q

@@ -5,3 +5,6 @@ pub mod Verdicts
 pub mod GroundColumns
 pub mod Tables
 pub mod Found
+pub mod Solved
+pub mod Columns
+pub mod Settled

@@ -22,7 +22,7 @@ use automata::arena::Arena;
 use automata::automaton::Automaton;
 
 // The ranks of the broken states.
-pub(crate) fn find_broken(table: &Table, broken: &mut [u16])
+fn find_broken(table: &Table, broken: &mut [u16])
     requires long { ⌜ length (now broken) ≡ 256 ⌝ }
     ensures { λ _. ⌜ Broken-found (table-arena (now (table .entry))) (now (broken .exit)) ⌝ }
 {
@@ -43,7 +43,7 @@ fn find_right(table: &Table, broken: &[u16], j: u8, ranks: &mut [u16])
 }
 
 // The ranks of every right's column.
-pub(crate) fn find_rights(table: &Table, broken: &[u16], rights: &mut [u16])
+fn find_rights(table: &Table, broken: &[u16], rights: &mut [u16])
     requires long { ⌜ length (now rights) ≡ 1024 ⌝ }
     requires found { ⌜ Broken-found (table-arena (now table)) (now broken) ⌝ }
     ensures { λ _. ⌜ Rights-found (table-arena (now (table .entry))) (table-arena (now (table .entry)) .k) (now (rights .exit)) ⌝ }
@@ -55,7 +55,7 @@ pub(crate) fn find_rights(table: &Table, broken: &[u16], rights: &mut [u16])
 }
 
 // The ranks of the duty's column.
-pub(crate) fn find_duty(table: &Table, broken: &[u16], rights: &[u16], duty: &mut [u16])
+fn find_duty(table: &Table, broken: &[u16], rights: &[u16], duty: &mut [u16])
     requires long { ⌜ length (now duty) ≡ 256 ⌝ }
     requires unbroken { ⌜ Broken-found (table-arena (now table)) (now broken) ⌝ }
     requires fenced { ⌜ Rights-found (table-arena (now table)) (table-arena (now table) .k) (now rights) ⌝ }
@@ -65,4 +65,18 @@ pub(crate) fn find_duty(table: &Table, broken: &[u16], rights: &[u16], duty: &mu
     let unbroken = Unranked { ranks: broken, count };
     let fence = Fence { broken, rights, columns: table.rights(), count };
     search(table, &DutyColumn { unbroken, fence }, &mut duty[0..count as usize]);
+}
+
+// The ranks of the broken states and of every column.
+pub(crate) fn find_regions(table: &Table, broken: &mut [u16], rights: &mut [u16], duty: &mut [u16])
+    requires one { ⌜ length (now broken) ≡ 256 ⌝ }
+    requires four { ⌜ length (now rights) ≡ 1024 ⌝ }
+    requires last { ⌜ length (now duty) ≡ 256 ⌝ }
+    ensures broken_found { λ _. ⌜ Broken-found (table-arena (now (table .entry))) (now (broken .exit)) ⌝ }
+    ensures rights_found { λ _. ⌜ Rights-found (table-arena (now (table .entry))) (table-arena (now (table .entry)) .k) (now (rights .exit)) ⌝ }
+    ensures duty_found { λ _. ⌜ Column-found (table-arena (now (table .entry))) 0 (now (duty .exit)) ⌝ }
+{
+    find_broken(table, broken);
+    find_rights(table, broken, rights);
+    find_duty(table, broken, rights, duty);
 }

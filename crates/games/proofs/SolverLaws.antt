@@ -1,0 +1,84 @@
+-- What the lists of a solver tell of the arena that it holds.
+use mathlib.Core.Path.{_≡_, refl, sym, _∙_, ap}
+use mathlib.Core.Bool.{Bool, true, false, not, _&&_, cond}
+use mathlib.Core.List.{List}
+use Prim.Native.Nat.{ℕ, zero, suc, _+_, _*_, _<_, _≤_}
+use native.Mathlib.Omega.{arith}
+use lib.Dec.{T, ltb, leb, eqb}
+use lib.ListN.{getD}
+use Rattle.std.specs.Of.Vec.{vec-items}
+use mathlib.Core.Logic.{_⊎_, inl, inr}
+use native.Mathlib.Numerals.{add-one}
+use Rattle.std.proofs.shelf.Tests.{le-leb, lt-ltb, le-ltb, eq-eqb, ne-eqb, not-true, not-false, cond-true, cond-false}
+use Rattle.automata.specs.Ranges.{all, least}
+use Rattle.automata.specs.Arena.{Arena}
+use Rattle.automata.proofs.RangeLaws.{T-true, false-T, below-suc, least-is, least-none}
+use Rattle.automata.specs.Lawful.{Lawful-arena}
+use Rattle.games.specs.declared.solver.Solver.{Solver}
+use Rattle.games.specs.Solved.{solver-arena}
+use Rattle.games.specs.declared.verdict.Verdict.the-variants.{Groundless, Planned, Unplayable}
+use Rattle.games.specs.Regions.{broken, unbroken, fence, rank, ranked}
+use Rattle.games.specs.Verdicts.{verdict, lacking}
+use Rattle.games.specs.Columns.{rank-in}
+use Rattle.games.proofs.TableLaws.{table-lawful}
+use Rattle.games.proofs.RegionLaws.{unranked-is, fenced-is, rank-lacks-in}
+
+pub solver-lawful : (s : Solver) → Lawful-arena (solver-arena s)
+solver-lawful s = table-lawful (s .table)
+
+pub solver-unbroken : (s : Solver) (xs : List ℕ) → xs ≡ vec-items (s .broken) → (λ (q : ℕ). ltb q (s .table .count) && eqb (getD xs q 0) 65535) ≡ unbroken (solver-arena s)
+solver-unbroken s xs e =
+    let f : List ℕ → ℕ → Bool = λ l q. ltb q (s .table .count) && eqb (getD l q 0) 65535 in
+    ap f e ∙ unranked-is (solver-arena s) (solver-lawful s) (vec-items (s .broken)) (s .«broken_found»)
+
+pub solver-fence : (s : Solver) (xs ys : List ℕ) → xs ≡ vec-items (s .broken) → ys ≡ vec-items (s .rights) →
+    (λ (q : ℕ). (ltb q (s .table .count) && eqb (getD xs q 0) 65535) && all (s .table .rights) (λ j. not (eqb (getD ys (j * 256 + q) 0) 65535))) ≡ fence (solver-arena s)
+solver-fence s xs ys e f =
+    let g : List ℕ → List ℕ → ℕ → Bool = λ l m q. (ltb q (s .table .count) && eqb (getD l q 0) 65535) && all (s .table .rights) (λ j. not (eqb (getD m (j * 256 + q) 0) 65535)) in
+    ap (λ l. g l ys) e ∙ ap (g (vec-items (s .broken))) f
+    ∙ fenced-is (solver-arena s) (solver-lawful s) (vec-items (s .broken)) (s .«broken_found») (vec-items (s .rights)) (s .«rights_found»)
+
+-- in a column that there is, what has no rank is what is not ranked
+pub rank-in-at : (s : Solver) (i q : ℕ) → i ≤ solver-arena s .k → rank-in (solver-arena s) i q ≡ rank (solver-arena s) i q
+rank-in-at s i q l = cond-true (leb i (solver-arena s .k)) _ 65535 (le-leb i _ l)
+
+pub rank-in-lacks : (s : Solver) (i q : ℕ) → i ≤ solver-arena s .k → eqb (rank-in (solver-arena s) i q) 65535 ≡ not (ranked (solver-arena s) i q)
+rank-in-lacks s i q l = ap (λ v. eqb v 65535) (rank-in-at s i q l) ∙ rank-lacks-in (solver-arena s) (solver-lawful s) i q
+
+-- the search for the lowest right that lacks a state: it goes on where the right's column has the state
+module _ (s : Solver) (q : ℕ) where
+  abbrev A : Arena
+  A = solver-arena s
+
+  abbrev lost : ℕ → Bool
+  lost j = not (ranked A (suc j) q)
+
+  pub lacking-on : (m : ℕ) → m < A .k → ((j : ℕ) → j < m → T (lost j) → ⊥) → (rank-in A (m + 1) q ≡ 65535 → ⊥) → (j : ℕ) → j < m + 1 → T (lost j) → ⊥
+  lacking-on m l before f j h t = go (below-suc j m (omega arith))
+    where
+      go : (j ≡ m) ⊎ (j < m) → ⊥
+      go (inl z) = false-T (lost j) (ap (λ (i : ℕ). lost i) z ∙ sym (rank-in-lacks s (suc m) q (omega arith)) ∙ ap (λ (i : ℕ). eqb (rank-in A i q) 65535) (sym (add-one m)) ∙ ne-eqb _ 65535 f) t
+      go (inr z) = before j z t
+
+  pub lacking-found : (m : ℕ) → m < A .k → ((j : ℕ) → j < m → T (lost j) → ⊥) → (rank-in A (m + 1) q ≡ 65535) → m + 1 ≡ lacking A q
+  lacking-found m l before e =
+      let here : T (lost m) = T-true _ (sym (rank-in-lacks s (suc m) q (omega arith)) ∙ ap (λ (i : ℕ). eqb (rank-in A i q) 65535) (sym (add-one m)) ∙ eq-eqb _ 65535 e) in
+      let z : least (A .k) lost ≡ m = least-is (A .k) lost m l here before in
+      add-one m ∙ sym (ap (λ (j : ℕ). cond (ltb j (A .k)) (suc j) zero) z ∙ cond-true (ltb m (A .k)) (suc m) zero (lt-ltb m (A .k) l))
+
+  pub lacking-none : ((j : ℕ) → j < A .k → T (lost j) → ⊥) → 0 ≡ lacking A q
+  lacking-none never =
+      sym (ap (λ (j : ℕ). cond (ltb j (A .k)) (suc j) zero) (least-none (A .k) lost never) ∙ cond-false (ltb (A .k) (A .k)) (suc (A .k)) zero (le-ltb (A .k) (A .k) (omega arith)))
+
+-- the verdict where the start is unbroken and has no rank in column 0
+module _ (s : Solver) where
+  abbrev B : Arena
+  B = solver-arena s
+
+  module _ (e : unbroken B (B .start) ≡ true) where
+    verdict-kept : verdict B ≡ cond (ranked B 0 (B .start)) (Planned (rank B 0 (B .start))) (Unplayable (lacking B (B .start)))
+    verdict-kept = cond-false (broken B (B .start)) Groundless _ (not-true (broken B (B .start)) e)
+
+    pub verdict-unplayable : rank-in B 0 (B .start) ≡ 65535 → Unplayable (lacking B (B .start)) ≡ verdict B
+    verdict-unplayable z =
+        sym (verdict-kept ∙ cond-false (ranked B 0 (B .start)) _ _ (not-true _ (sym (rank-in-lacks s 0 (B .start) (omega arith)) ∙ eq-eqb _ 65535 z)))
