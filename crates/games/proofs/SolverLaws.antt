@@ -1,27 +1,29 @@
 -- What the lists of a solver tell of the arena that it holds.
-use mathlib.Core.Path.{_≡_, refl, sym, _∙_, ap}
+use mathlib.Core.Path.{_≡_, refl, sym, _∙_, ap, ap₂, fun-ext}
 use mathlib.Core.Bool.{Bool, true, false, not, _&&_, cond}
 use mathlib.Core.List.{List}
-use Prim.Native.Nat.{ℕ, zero, suc, _+_, _*_, _<_, _≤_}
+use Prim.Native.Nat.{ℕ, zero, suc, _+_, _*_, _^_, _<_, _≤_}
 use native.Mathlib.Omega.{arith}
 use lib.Dec.{T, ltb, leb, eqb}
 use lib.ListN.{getD}
 use Rattle.std.specs.Of.Vec.{vec-items}
 use mathlib.Core.Logic.{_⊎_, inl, inr}
 use native.Mathlib.Numerals.{add-one}
-use Rattle.std.proofs.shelf.Tests.{le-leb, lt-ltb, le-ltb, eq-eqb, ne-eqb, not-true, not-false, cond-true, cond-false}
+use Rattle.std.proofs.shelf.Tests.{cases-lt, and-left, le-leb, lt-leb, lt-ltb, le-ltb, eq-eqb, ne-eqb, not-true, not-false, cond-true, cond-false}
 use Rattle.automata.specs.Ranges.{all, least}
 use Rattle.automata.specs.Arena.{Arena}
+use Rattle.automata.specs.Steps.{onward}
 use Rattle.automata.proofs.RangeLaws.{T-true, false-T, below-suc, least-is, least-none}
 use Rattle.automata.specs.Lawful.{Lawful-arena}
 use Rattle.games.specs.declared.solver.Solver.{Solver}
 use Rattle.games.specs.Solved.{solver-arena}
 use Rattle.games.specs.declared.verdict.Verdict.the-variants.{Groundless, Planned, Unplayable}
-use Rattle.games.specs.Regions.{broken, unbroken, fence, rank, ranked}
+use Rattle.games.specs.Regions.{broken, unbroken, lawful, fence, rank, ranked, permits}
+use Rattle.games.specs.GroundColumns.{holds-off}
 use Rattle.games.specs.Verdicts.{verdict, lacking}
-use Rattle.games.specs.Columns.{rank-in}
+use Rattle.games.specs.Columns.{rank-in, permits-in}
 use Rattle.games.proofs.TableLaws.{table-lawful}
-use Rattle.games.proofs.RegionLaws.{unranked-is, fenced-is, rank-lacks-in}
+use Rattle.games.proofs.RegionLaws.{not-not, unranked-is, fenced-is, rank-lacks-in}
 
 pub solver-lawful : (s : Solver) → Lawful-arena (solver-arena s)
 solver-lawful s = table-lawful (s .table)
@@ -82,3 +84,30 @@ module _ (s : Solver) where
     pub verdict-unplayable : rank-in B 0 (B .start) ≡ 65535 → Unplayable (lacking B (B .start)) ≡ verdict B
     verdict-unplayable z =
         sym (verdict-kept ∙ cond-false (ranked B 0 (B .start)) _ _ (not-true _ (sym (rank-in-lacks s 0 (B .start) (omega arith)) ∙ eq-eqb _ 65535 z)))
+
+-- what the solver asks of a command is what its set holds
+pub permits-asked : (s : Solver) (i q x y : ℕ) →
+    ((not (eqb (rank-in (solver-arena s) i q) 65535) && lawful (solver-arena s) q x) && onward (solver-arena s .step q x y) false (λ t. ltb (rank-in (solver-arena s) i t) (rank-in (solver-arena s) i q))) ≡ permits-in (solver-arena s) i q x y
+permits-asked s i q x y = go (cases-lt (solver-arena s .k) i)
+  where
+    C : Arena
+    C = solver-arena s
+    go : (C .k < i) ⊎ (i ≤ C .k) →
+        ((not (eqb (rank-in C i q) 65535) && lawful C q x) && onward (C .step q x y) false (λ t. ltb (rank-in C i t) (rank-in C i q))) ≡ permits-in C i q x y
+    go (inl m) =
+        let none : rank-in C i q ≡ 65535 = cond-false (leb i (C .k)) (rank C i q) 65535 (lt-leb i (C .k) m) in
+        ap (λ v. (not (eqb v 65535) && lawful C q x) && onward (C .step q x y) false (λ t. ltb (rank-in C i t) (rank-in C i q))) none
+        ∙ sym (and-left (leb i (C .k)) _ (lt-leb i (C .k) m))
+    go (inr m) =
+        let same : rank-in C i ≡ rank C i = fun-ext (λ t. rank-in-at s i t m) in
+        ap₂ (λ a f. (a && lawful C q x) && onward (C .step q x y) false (λ t. ltb (f t) (f q)))
+          (ap not (rank-in-lacks s i q m) ∙ not-not (ranked C i q)) same
+        ∙ sym (ap (λ b. b && permits C i q x y) (le-leb i (C .k) m))
+
+-- what the solver asks of a reading is that it holds the state off the column
+pub off-asked : (s : Solver) (i q x : ℕ) → i ≤ solver-arena s .k →
+    (lawful (solver-arena s) q x && all (2 ^ solver-arena s .b) (λ y. onward (solver-arena s .step q x y) false (λ t. eqb (rank-in (solver-arena s) i t) 65535))) ≡ holds-off (solver-arena s) i q x
+off-asked s i q x m =
+    let C = solver-arena s in
+    let same : (λ (t : ℕ). eqb (rank-in C i t) 65535) ≡ (λ t. not (ranked C i t)) = fun-ext (λ t. rank-in-lacks s i t m) in
+    ap (λ (f : ℕ → Bool). lawful C q x && all (2 ^ C .b) (λ y. onward (C .step q x y) false f)) same

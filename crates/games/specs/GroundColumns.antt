@@ -6,10 +6,14 @@ use Rattle.automata.specs.Steps.{onward}
 use Rattle.automata.specs.Arena.{Arena}
 use Rattle.games.specs.Regions.{unbroken, lawful, fence, ranked}
 
--- column i has a reading at the unbroken states that it does not rank; column 0 only in the fence
+-- the states of column i: the fence for column 0, the unbroken states for a right's column
+abbrev pub region : Arena → ℕ → ℕ → Bool
+region A zero = fence A
+region A (suc j) = unbroken A
+
+-- column i of the ground has a reading at those that it does not rank
 abbrev pub kept : Arena → ℕ → ℕ → Bool
-kept A zero q = fence A q && not (ranked A 0 q)
-kept A (suc j) q = unbroken A q && not (ranked A (suc j) q)
+kept A i q = region A i q && not (ranked A i q)
 
 -- x is lawful at q, and under it every command steps to a state unranked in column i
 abbrev pub holds-off : Arena → ℕ → ℕ → ℕ → Bool
