@@ -1,0 +1,3 @@
+// Job files: from bytes to what an arena is made of, or the refusal.
+pub mod fault;
+pub mod flat;
