@@ -2,11 +2,13 @@
 use mathlib.Core.Path.{_≡_, refl, sym, _∙_, ap, ap₂, fun-ext}
 use mathlib.Core.Bool.{Bool, true, false, not, _&&_, cond}
 use mathlib.Core.List.{List}
-use Prim.Native.Nat.{ℕ, zero, suc, _+_, _*_, _^_, _<_, _≤_}
+use Prim.Native.Nat.{ℕ, zero, suc, _+_, _-_, _*_, _^_, _<_, _≤_}
 use native.Mathlib.Omega.{arith}
 use lib.Dec.{T, ltb, leb, eqb}
 use lib.ListN.{getD}
 use Rattle.std.specs.Of.Vec.{vec-items}
+use Rattle.std.specs.declared.option.Option.{Option}
+use Rattle.std.specs.declared.option.Option.the-variants.{None, Some}
 use mathlib.Core.Logic.{_⊎_, inl, inr}
 use native.Mathlib.Numerals.{add-one}
 use Rattle.std.proofs.shelf.Tests.{cases-lt, and-left, le-leb, lt-leb, lt-ltb, le-ltb, eq-eqb, ne-eqb, not-true, not-false, cond-true, cond-false}
@@ -17,10 +19,9 @@ use Rattle.automata.proofs.RangeLaws.{T-true, false-T, below-suc, least-is, lea
 use Rattle.automata.specs.Lawful.{Lawful-arena}
 use Rattle.games.specs.declared.solver.Solver.{Solver}
 use Rattle.games.specs.Solved.{solver-arena}
-use Rattle.games.specs.declared.verdict.Verdict.the-variants.{Groundless, Planned, Unplayable}
-use Rattle.games.specs.Regions.{broken, unbroken, lawful, fence, rank, ranked, permits}
+use Rattle.games.specs.Regions.{unbroken, lawful, fence, rank, ranked, permits}
 use Rattle.games.specs.GroundColumns.{holds-off}
-use Rattle.games.specs.Verdicts.{verdict, lacking}
+use Rattle.games.specs.Verdicts.{lacking}
 use Rattle.games.specs.Columns.{rank-in, permits-in}
 use Rattle.games.proofs.TableLaws.{table-lawful}
 use Rattle.games.proofs.RegionLaws.{not-not, unranked-is, fenced-is, rank-lacks-in}
@@ -47,6 +48,25 @@ rank-in-at s i q l = cond-true (leb i (solver-arena s .k)) _ 65535 (le-leb i _ l
 pub rank-in-lacks : (s : Solver) (i q : ℕ) → i ≤ solver-arena s .k → eqb (rank-in (solver-arena s) i q) 65535 ≡ not (ranked (solver-arena s) i q)
 rank-in-lacks s i q l = ap (λ v. eqb v 65535) (rank-in-at s i q l) ∙ rank-lacks-in (solver-arena s) (solver-lawful s) i q
 
+-- what a solver has stored of a state is its rank
+pub stored-is : (s : Solver) (i q : ℕ) → i ≤ solver-arena s .k → q < solver-arena s .n →
+    cond (eqb i 0) (getD (vec-items (s .duty)) q 0) (getD (vec-items (s .rights)) ((i - 1) * 256 + q) 0) ≡ rank-in (solver-arena s) i q
+stored-is s zero q k l = s .«duty_found» q l ∙ sym (rank-in-at s 0 q k)
+stored-is s (suc j) q k l =
+    let e : suc j - 1 ≡ j = omega arith in
+    cond-false (eqb (suc j) 0) _ _ (ne-eqb (suc j) 0 (λ z. omega arith))
+    ∙ ap (λ (i : ℕ). getD (vec-items (s .rights)) (i * 256 + q) 0) e ∙ s .«rights_found» j q (k, l) ∙ sym (rank-in-at s (suc j) q k)
+
+-- in column 0 a state is ranked where it has a rank
+pub rounds-none : (s : Solver) (q : ℕ) → rank-in (solver-arena s) 0 q ≡ 65535 → None ≡ cond (ranked (solver-arena s) 0 q) (Some (rank (solver-arena s) 0 q)) None
+rounds-none s q e = sym (cond-false (ranked (solver-arena s) 0 q) _ None (not-true _ (sym (rank-in-lacks s 0 q (omega arith)) ∙ eq-eqb _ 65535 e)))
+
+pub rounds-some : (s : Solver) (q r : ℕ) → r ≡ rank-in (solver-arena s) 0 q → (r ≡ 65535 → ⊥) → Some r ≡ cond (ranked (solver-arena s) 0 q) (Some (rank (solver-arena s) 0 q)) None
+rounds-some s q r e f =
+    let i : r ≡ rank (solver-arena s) 0 q = e ∙ rank-in-at s 0 q (omega arith) in
+    ap {B = Option ℕ} Some i
+    ∙ sym (cond-true (ranked (solver-arena s) 0 q) _ None (not-false _ (sym (rank-in-lacks s 0 q (omega arith)) ∙ ne-eqb _ 65535 (λ z. f (e ∙ z)))))
+
 -- the search for the lowest right that lacks a state: it goes on where the right's column has the state
 module _ (s : Solver) (q : ℕ) where
   abbrev A : Arena
@@ -71,19 +91,6 @@ module _ (s : Solver) (q : ℕ) where
   pub lacking-none : ((j : ℕ) → j < A .k → T (lost j) → ⊥) → 0 ≡ lacking A q
   lacking-none never =
       sym (ap (λ (j : ℕ). cond (ltb j (A .k)) (suc j) zero) (least-none (A .k) lost never) ∙ cond-false (ltb (A .k) (A .k)) (suc (A .k)) zero (le-ltb (A .k) (A .k) (omega arith)))
-
--- the verdict where the start is unbroken and has no rank in column 0
-module _ (s : Solver) where
-  abbrev B : Arena
-  B = solver-arena s
-
-  module _ (e : unbroken B (B .start) ≡ true) where
-    verdict-kept : verdict B ≡ cond (ranked B 0 (B .start)) (Planned (rank B 0 (B .start))) (Unplayable (lacking B (B .start)))
-    verdict-kept = cond-false (broken B (B .start)) Groundless _ (not-true (broken B (B .start)) e)
-
-    pub verdict-unplayable : rank-in B 0 (B .start) ≡ 65535 → Unplayable (lacking B (B .start)) ≡ verdict B
-    verdict-unplayable z =
-        sym (verdict-kept ∙ cond-false (ranked B 0 (B .start)) _ _ (not-true _ (sym (rank-in-lacks s 0 (B .start) (omega arith)) ∙ eq-eqb _ 65535 z)))
 
 -- what the solver asks of a command is what its set holds
 pub permits-asked : (s : Solver) (i q x y : ℕ) →

@@ -2,6 +2,7 @@
 ghost use mathlib.Core.Path.{_≡_};
 ghost use Prim.Native.Nat.{ℕ, suc, _<_};
 ghost use lib.ListN.{length};
+ghost use Rattle.std.specs.Of.Vec.{vec-len, vec-items};
 ghost use Rattle.games.specs.Tables.{«table-arena»};
 ghost use Rattle.games.specs.Found.{Broken-found, Column-found, Rights-found};
 use crate::rules::Broken;
@@ -68,7 +69,7 @@ fn find_duty(table: &Table, broken: &[u16], rights: &[u16], duty: &mut [u16])
 }
 
 // The ranks of the broken states and of every column.
-pub(crate) fn find_regions(table: &Table, broken: &mut [u16], rights: &mut [u16], duty: &mut [u16])
+fn find_all(table: &Table, broken: &mut [u16], rights: &mut [u16], duty: &mut [u16])
     requires one { ⌜ length (now broken) ≡ 256 ⌝ }
     requires four { ⌜ length (now rights) ≡ 1024 ⌝ }
     requires last { ⌜ length (now duty) ≡ 256 ⌝ }
@@ -79,4 +80,19 @@ pub(crate) fn find_regions(table: &Table, broken: &mut [u16], rights: &mut [u16]
     find_broken(table, broken);
     find_rights(table, broken, rights);
     find_duty(table, broken, rights, duty);
+}
+
+// The ranks of the broken states and of every column, into lists that have room for them.
+pub(crate) fn find_regions(table: &Table, broken: &mut Vec<u16>, rights: &mut Vec<u16>, duty: &mut Vec<u16>)
+    requires one { ⌜ vec-len (now broken) ≡ 256 ⌝ }
+    requires four { ⌜ vec-len (now rights) ≡ 1024 ⌝ }
+    requires last { ⌜ vec-len (now duty) ≡ 256 ⌝ }
+    ensures broken_long { λ _. ⌜ vec-len (now (broken .exit)) ≡ 256 ⌝ }
+    ensures rights_long { λ _. ⌜ vec-len (now (rights .exit)) ≡ 1024 ⌝ }
+    ensures duty_long { λ _. ⌜ vec-len (now (duty .exit)) ≡ 256 ⌝ }
+    ensures broken_found { λ _. ⌜ Broken-found (table-arena (now (table .entry))) (vec-items (now (broken .exit))) ⌝ }
+    ensures rights_found { λ _. ⌜ Rights-found (table-arena (now (table .entry))) (table-arena (now (table .entry)) .k) (vec-items (now (rights .exit))) ⌝ }
+    ensures duty_found { λ _. ⌜ Column-found (table-arena (now (table .entry))) 0 (vec-items (now (duty .exit))) ⌝ }
+{
+    find_all(table, broken.as_mut_slice(), rights.as_mut_slice(), duty.as_mut_slice());
 }

@@ -28,7 +28,7 @@ impl Solver {
         let mut broken = vec![in heap; 65535; 256]?;
         let mut rights = vec![in heap; 65535; 1024]?;
         let mut duty = vec![in heap; 65535; 256]?;
-        find_regions(&table, broken.as_mut_slice(), rights.as_mut_slice(), duty.as_mut_slice());
+        find_regions(&table, &mut broken, &mut rights, &mut duty);
         Ok(Solver { table, broken, rights, duty })
     }
 
@@ -38,7 +38,7 @@ impl Solver {
         ensures { λ _. ⌜ solver-arena (now (self .exit)) ≡ arena-of P·Automaton P·Arena (now (arena .entry)) ⌝ }
     {
         self.table.copy(arena);
-        find_regions(&self.table, self.broken.as_mut_slice(), self.rights.as_mut_slice(), self.duty.as_mut_slice());
+        find_regions(&self.table, &mut self.broken, &mut self.rights, &mut self.duty);
     }
 
     // Takes over an arena, finds its regions, and answers the verdict on it.
