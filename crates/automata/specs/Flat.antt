@@ -17,11 +17,15 @@ flat-arena h bytes =
     let b = h .«command_bits» in
     let n = h .count in
     record {
-      a = a; b = b; n = n; start = h .start; k = h .rights;
+      a = a;
+      b = b;
+      n = n;
+      start = h .start;
+      k = h .rights;
       -- bit 0 of a mark byte is the duty's, bit i is right i's
       marked = λ q. ltb q n && bit (getD bytes (8 + q) 0) 0;
       right = λ i q. leb 1 i && leb i (h .rights) && ltb q n && bit (getD bytes (8 + q) 0) i;
       -- a step byte that is no state is none
       step = λ q x y.
-        cond (ltb q n && ltb x (2 ^ a) && ltb y (2 ^ b)) (named n (getD bytes (8 + n + ((q * 2 ^ a + x) * 2 ^ b + y)) 0)) None
+          cond (ltb q n && ltb x (2 ^ a) && ltb y (2 ^ b)) (named n (getD bytes (8 + n + ((q * 2 ^ a + x) * 2 ^ b + y)) 0)) None;
     }

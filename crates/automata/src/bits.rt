@@ -1,11 +1,10 @@
 // A byte's bits.
 ghost use mathlib.Core.Path.{_≡_};
-ghost use Prim.Native.Nat.{_<_};
 ghost use Rattle.automata.specs.Ranges.{bit};
 
-pub(crate) fn has_bit(byte: u8, i: u8) -> bool
-    requires { ⌜ i < 8 ⌝ }
+// Whether bit `i` of a byte is set, bit 0 being the lowest.
+pub fn has_bit(byte: u8, i: u8) -> bool
     ensures { λ r. ⌜ r ≡ bit byte i ⌝ }
 {
-    (byte >> i) % 2 == 1
+    i < 8 && (byte >> i) % 2 == 1
 }

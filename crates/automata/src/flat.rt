@@ -56,7 +56,11 @@ pub impl<B: Bytes> Automaton for Flat<B> as FlatAutomaton {
             return None;
         }
         let target = self.bytes.at(8 + count + (q * readings + x) * commands + y);
-        if target < self.header.count { Some(target as u16) } else { None }
+        if target < self.header.count {
+            Some(target as u16)
+        } else {
+            None
+        }
     }
 }
 

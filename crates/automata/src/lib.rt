@@ -1,7 +1,7 @@
 // Automata and arenas by their answers, and the arena of a flat job.
 pub mod arena;
 pub mod automaton;
-mod bits;
+pub mod bits;
 pub mod bytes;
 pub mod flat;
 pub mod header;

@@ -1,4 +1,8 @@
+pub mod ColumnLaws
 pub mod CountLaws
+pub mod FollowLaws
+pub mod GroundLaws
+pub mod MeantLaws
 pub mod Pass
 pub mod RegionLaws
 pub mod Rows

@@ -28,10 +28,10 @@ module _ (joins : (ℕ → Bool) → ℕ → Bool) (before : List ℕ) (r : ℕ)
   passed-within p =
       ⊎-elim
       (λ (e : (eqb (getD before p 0) 65535 && joins (ranked-by before r) p) ≡ true).
-        let v : getD before p 0 ≡ 65535 = eqb-true (getD before p 0) 65535 (and-parts (eqb (getD before p 0) 65535) (joins (ranked-by before r) p) e .0) in
-        ap (λ x. leb x r) (cond-true _ (r + 1) (getD before p 0) e) ∙ lt-leb (r + 1) r (omega arith) ∙ sym (lt-leb (getD before p 0) r (omega arith)))
+      let v : getD before p 0 ≡ 65535 = eqb-true (getD before p 0) 65535 (and-parts (eqb (getD before p 0) 65535) (joins (ranked-by before r) p) e .0) in
+      ap (λ x. leb x r) (cond-true _ (r + 1) (getD before p 0) e) ∙ lt-leb (r + 1) r (omega arith) ∙ sym (lt-leb (getD before p 0) r (omega arith)))
       (λ (e : (eqb (getD before p 0) 65535 && joins (ranked-by before r) p) ≡ false).
-        ap (λ x. leb x r) (cond-false _ (r + 1) (getD before p 0) e))
+      ap (λ x. leb x r) (cond-false _ (r + 1) (getD before p 0) e))
       (cases-bool (eqb (getD before p 0) 65535 && joins (ranked-by before r) p))
 
   module _ (here : List ℕ) (q : ℕ) (any : Bool) (inv : PassInv joins before r here q any) (inside : q < length before) where
@@ -53,25 +53,25 @@ module _ (joins : (ℕ → Bool) → ℕ → Bool) (before : List ℕ) (r : ℕ)
         record {
           same-length = length-set here q (r + 1) ∙ inv .same-length;
           past = λ p h. ⊎-elim
-            (λ (e : p ≡ q). subst (λ (i : ℕ). getD (set here q (r + 1)) i 0 ≡ passed-at joins before r i) (sym e)
+              (λ (e : p ≡ q). subst (λ (i : ℕ). getD (set here q (r + 1)) i 0 ≡ passed-at joins before r i) (sym e)
               (getD-set-same here q (r + 1) 0 within-here ∙ sym (cond-true _ (r + 1) (getD before q 0) (sym test-before ∙ t))))
-            (λ (e : p ≡ q → ⊥). getD-set-other here q p (r + 1) 0 e ∙ inv .past p (omega arith))
-            (cases-eq p q);
+              (λ (e : p ≡ q → ⊥). getD-set-other here q p (r + 1) 0 e ∙ inv .past p (omega arith))
+              (cases-eq p q);
           ahead = λ p h. getD-set-other here q p (r + 1) 0 (omega arith) ∙ inv .ahead p (omega arith);
-          still = λ z. absurd (let e : _≡_ {A = ℕ} 0 1 = cc in omega arith)
+          still = λ z. absurd (let e : _≡_ {A = ℕ} 0 1 = cc in omega arith);
         }
 
     skipped : (eqb (getD here q 0) 65535 && joins (ranked-by here r) q) ≡ false → PassInv joins before r here (q + 1) any
     skipped t = record {
-        same-length = inv .same-length;
-        past = λ p h. ⊎-elim
+      same-length = inv .same-length;
+      past = λ p h. ⊎-elim
           (λ (e : p ≡ q). subst (λ (i : ℕ). getD here i 0 ≡ passed-at joins before r i) (sym e)
-            (inv .ahead q (omega arith) ∙ sym (cond-false _ (r + 1) (getD before q 0) (sym test-before ∙ t))))
+          (inv .ahead q (omega arith) ∙ sym (cond-false _ (r + 1) (getD before q 0) (sym test-before ∙ t))))
           (λ (e : p ≡ q → ⊥). inv .past p (omega arith))
           (cases-eq p q);
-        ahead = λ p h. inv .ahead p (omega arith);
-        still = inv .still
-      }
+      ahead = λ p h. inv .ahead p (omega arith);
+      still = inv .still;
+    }
 
     -- one turn of the pass
     pub pass-more : (b : Bool) (next : List ℕ) → b ≡ (eqb (getD here q 0) 65535 && joins (ranked-by here r) q) →

@@ -66,7 +66,7 @@ module _ (A : Arena) (L : Lawful-arena A) where
 
     pub right-found : (j : ℕ) (row : List ℕ) (n i : ℕ) → n ≡ A .n → i ≡ suc j →
         Ranks (A .n) (λ q. (ltb q n && eqb (getD ranks q 0) 65535) && (A .marked q && A .right i q))
-          (λ S q. (ltb q n && eqb (getD ranks q 0) 65535) && forces-by A (lawful-by A (λ q. ltb q n && eqb (getD ranks q 0) 65535)) S q) row →
+        (λ S q. (ltb q n && eqb (getD ranks q 0) 65535) && forces-by A (lawful-by A (λ q. ltb q n && eqb (getD ranks q 0) 65535)) S q) row →
         Column-found A (suc j) row
     right-found j row n i en ei r =
         let Rule : (ℕ → Bool) → ℕ → Type 0 = λ U i. Ranks (A .n) (λ q. U q && (A .marked q && A .right i q)) (λ S q. U q && forces-by A (lawful-by A U) S q) row in
@@ -93,7 +93,7 @@ module _ (A : Arena) (L : Lawful-arena A) where
 
       pub duty-found : (row : List ℕ) (n k : ℕ) → n ≡ A .n → k ≡ A .k →
           Ranks (A .n) (λ q. ((ltb q n && eqb (getD ranks q 0) 65535) && all k (λ j. not (eqb (getD rights (j * 256 + q) 0) 65535))) && A .marked q)
-            (λ S q. ((ltb q n && eqb (getD ranks q 0) 65535) && all k (λ j. not (eqb (getD rights (j * 256 + q) 0) 65535))) && forces-by A (lawful-by A (λ q. ltb q n && eqb (getD ranks q 0) 65535)) S q) row →
+          (λ S q. ((ltb q n && eqb (getD ranks q 0) 65535) && all k (λ j. not (eqb (getD rights (j * 256 + q) 0) 65535))) && forces-by A (lawful-by A (λ q. ltb q n && eqb (getD ranks q 0) 65535)) S q) row →
           Column-found A 0 row
       duty-found row n k en ek r =
           let Rule : (ℕ → Bool) → (ℕ → Bool) → Type 0 = λ U F. Ranks (A .n) (λ q. F q && A .marked q) (λ S q. F q && forces-by A (lawful-by A U) S q) row in

@@ -54,8 +54,10 @@ module _ (n : ℕ) (first : ℕ → Bool) (joins : (ℕ → Bool) → ℕ → Bo
       where
         v : ℕ
         v = getD ranks q 0
+
         test : Bool
         test = eqb v 65535 && joins (ranked-by ranks r) q
+
         go : T (S r q) ⊎ (T (S r q) → ⊥) → T (joins (S r) q) ⊎ (T (joins (S r) q) → ⊥) → passed-at joins ranks r q ≡ rank-of (suc r) S q
         go (inl t) d =
             let e : v ≡ least r (λ i. S i q) = row .rank q l ∙ rank-ranked r first joins q t in
@@ -74,9 +76,9 @@ module _ (n : ℕ) (first : ℕ → Bool) (joins : (ℕ → Bool) → ℕ → Bo
 
     pub row-more : (after : List ℕ) → length after ≡ length ranks → Passed joins ranks r after → Row after (r + 1)
     row-more after same passed = record {
-        long = same ∙ row .long;
-        rank = λ q l. passed q (omega (arith, row .long)) ∙ passes q l ∙ ap (λ (k : ℕ). rank-of k S q) (sym (add-one r))
-      }
+      long = same ∙ row .long;
+      rank = λ q l. passed q (omega (arith, row .long)) ∙ passes q l ∙ ap (λ (k : ℕ). rank-of k S q) (sym (add-one r));
+    }
 
     -- where a pass changed nothing, the ranks are those of every later stage
     pub row-last : Passed joins ranks r ranks → r ≤ n → Row ranks n
@@ -84,6 +86,7 @@ module _ (n : ℕ) (first : ℕ → Bool) (joins : (ℕ → Bool) → ℕ → Bo
       where
         rests : (q : ℕ) → q < n → rank-of (suc r) S q ≡ rank-of r S q
         rests q l = sym (passes q l) ∙ sym (still q (omega (arith, row .long))) ∙ row .rank q l
+
         shut : Within n (S (suc r)) (S r)
         shut q l t =
             subst T (rank-tells first joins r q (omega arith)) (subst (λ (k : ℕ). T (leb k r)) (rests q l) (T-true _ (go (T-dec (S r q)) (or-case (S r q) _ t))))
@@ -95,6 +98,7 @@ module _ (n : ℕ) (first : ℕ → Bool) (joins : (ℕ → Bool) → ℕ → Bo
                 let e = rank-comes first joins r q f s in
                 let u = rank-unranked r first joins q f in
                 absurd (omega (arith, rests q l))
+
         shut-on : (m : ℕ) → r ≤ m → Within n (S (suc m)) (S m)
         shut-on zero h = let e : r ≡ zero = omega arith in subst (λ (k : ℕ). Within n (S (suc k)) (S k)) e shut
         shut-on (suc m) h = pick (decLt m r) (shut-on m)
@@ -102,12 +106,14 @@ module _ (n : ℕ) (first : ℕ → Bool) (joins : (ℕ → Bool) → ℕ → Bo
             pick : Dec (m < r) → (r ≤ m → Within n (S (suc m)) (S m)) → Within n (S (suc (suc m))) (S (suc m))
             pick (yes p) ih = let e : r ≡ suc m = omega arith in subst (λ (k : ℕ). Within n (S (suc k)) (S k)) e shut
             pick (no p) ih = closed-next n first joins mono m (ih (omega arith))
+
         step-same : (m : ℕ) → r ≤ m → (q : ℕ) → q < n → rank-of (suc m) S q ≡ rank-of m S q
         step-same m h q l = go (T-dec (S m q))
           where
             go : T (S m q) ⊎ (T (S m q) → ⊥) → rank-of (suc m) S q ≡ rank-of m S q
             go (inl t) = rank-stays first joins m q t
             go (inr f) = rank-waits first joins m q f (λ t. f (shut-on m h q l (or-r (S m q) _ t))) ∙ sym (rank-unranked m first joins q f)
+
         same : (m : ℕ) → r ≤ m → (q : ℕ) → q < n → rank-of m S q ≡ rank-of r S q
         same zero h q l = let e : r ≡ zero = omega arith in rw e
         same (suc m) h q l = pick (decLt m r) (same m)

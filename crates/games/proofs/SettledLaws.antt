@@ -54,7 +54,7 @@ module _ (n : ℕ) (first : ℕ → Bool) (joins : (ℕ → Bool) → ℕ → Bo
 
 pub regions-settle : (A : Arena) → Steps-inside A → Settled-regions A
 regions-settle A inside = record {
-    broken = settles (A .n) nowhere (breaks A) (breaks-mono A inside);
-    rights = λ i. settles (A .n) _ (λ S q. unbroken A q && forces A S q) (column-mono A inside (unbroken A) (lawful A));
-    duty = settles (A .n) _ (λ S q. fence A q && forces A S q) (column-mono A inside (fence A) (lawful A))
-  }
+  broken = settles (A .n) nowhere (breaks A) (breaks-mono A inside);
+  rights = λ i. settles (A .n) _ (λ S q. unbroken A q && forces A S q) (column-mono A inside (unbroken A) (lawful A));
+  duty = settles (A .n) _ (λ S q. fence A q && forces A S q) (column-mono A inside (fence A) (lawful A));
+}

@@ -99,6 +99,7 @@ permits-asked s i q x y = go (cases-lt (solver-arena s .k) i)
   where
     C : Arena
     C = solver-arena s
+
     go : (C .k < i) ⊎ (i ≤ C .k) →
         ((not (eqb (rank-in C i q) 65535) && lawful C q x) && onward (C .step q x y) false (λ t. ltb (rank-in C i t) (rank-in C i q))) ≡ permits-in C i q x y
     go (inl m) =
@@ -108,7 +109,7 @@ permits-asked s i q x y = go (cases-lt (solver-arena s .k) i)
     go (inr m) =
         let same : rank-in C i ≡ rank C i = fun-ext (λ t. rank-in-at s i t m) in
         ap₂ (λ a f. (a && lawful C q x) && onward (C .step q x y) false (λ t. ltb (f t) (f q)))
-          (ap not (rank-in-lacks s i q m) ∙ not-not (ranked C i q)) same
+        (ap not (rank-in-lacks s i q m) ∙ not-not (ranked C i q)) same
         ∙ sym (ap (λ b. b && permits C i q x y) (le-leb i (C .k) m))
 
 -- what the solver asks of a reading is that it holds the state off the column

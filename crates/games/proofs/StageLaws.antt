@@ -29,6 +29,7 @@ module _ (n : ℕ) (first : ℕ → Bool) (joins : (ℕ → Bool) → ℕ → Bo
     where
       test : ℕ → Bool
       test q = not (stage first joins (suc r) q) || stage first joins r q
+
       go : T (all n test) ⊎ (T (all n test) → ⊥) → Closed r ⊎ ((q : ℕ) × (q < n) × T (stage first joins (suc r) q) × (T (stage first joins r q) → ⊥))
       go (inl t) = inl (λ q l s. pick q s (or-case (not (stage first joins (suc r) q)) (stage first joins r q) (all-at n test t q l)))
         where
@@ -141,6 +142,7 @@ module _ (first : ℕ → Bool) (joins : (ℕ → Bool) → ℕ → Bool) where
     where
       f : ℕ → Bool
       f i = S i q
+
       go : Dec (least r f < r) → least (suc r) f ≡ least r f
       go (yes p) = least-is (suc r) f (least r f) (omega arith) (least-holds r f p) (least-before r f)
       go (no p) =

@@ -58,6 +58,7 @@ module _ (A : Arena) (L : Lawful-arena A) (duty marks : List Bool) (steps : List
     where
       low : leb (suc j) (A .k) ≡ true → (leb 1 (suc j) && leb (suc j) (A .k)) ≡ true
       low e = and-from (leb 1 (suc j)) _ (le-leb 1 (suc j) (omega arith)) e
+
       go : (j < A .k) ⊎ (A .k ≤ j) → (q < A .n) ⊎ (A .n ≤ q) → told .right (suc j) q ≡ A .right (suc j) q
       go (inl jl) (inl ql) =
           let i : ℕ = (suc j - 1) * 256 + q in
@@ -66,7 +67,7 @@ module _ (A : Arena) (L : Lawful-arena A) (duty marks : List Bool) (steps : List
           let d : i / 256 + 1 ≡ suc j = omega (arith, div-mul-add (suc j - 1) 256 q (omega arith)) in
           let m : i % 256 ≡ q = mod-mul-add (suc j - 1) 256 q (omega arith) in
           ap (λ b. b && getD marks i false)
-            (and-from (leb 1 (suc j) && leb (suc j) (A .k)) _ (low (le-leb _ _ jl)) (lt-ltb q (A .n) ql))
+          (and-from (leb 1 (suc j) && leb (suc j) (A .k)) _ (low (le-leb _ _ jl)) (lt-ltb q (A .n) ql))
           ∙ h .marks-at i (omega arith) ∙ ap (λ (z : ℕ). A .right z (i % 256)) d ∙ ap (λ (z : ℕ). A .right (suc j) z) m
       go (inl jl) (inr ql) =
           ap (λ b. b && getD marks ((suc j - 1) * 256 + q) false) (and-right (leb 1 (suc j) && leb (suc j) (A .k)) _ (le-ltb q (A .n) ql))
@@ -80,14 +81,19 @@ module _ (A : Arena) (L : Lawful-arena A) (duty marks : List Bool) (steps : List
     where
       test : Bool
       test = ltb q (A .n) && ltb x (2 ^ A .a) && ltb y (2 ^ A .b)
+
       found : Option ℕ
       found = onward (getD steps ((q * 8 + x) * 8 + y) None) None (named (A .n))
+
       no-state : A .n ≤ q → test ≡ false
       no-state l = and-left (ltb q (A .n) && ltb x (2 ^ A .a)) _ (and-left (ltb q (A .n)) _ (le-ltb q (A .n) l))
+
       no-reading : 2 ^ A .a ≤ x → test ≡ false
       no-reading l = and-left (ltb q (A .n) && ltb x (2 ^ A .a)) _ (and-right (ltb q (A .n)) _ (le-ltb x _ l))
+
       no-command : 2 ^ A .b ≤ y → test ≡ false
       no-command l = and-right (ltb q (A .n) && ltb x (2 ^ A .a)) _ (le-ltb y _ l)
+
       go : (q < A .n) ⊎ (A .n ≤ q) → (x < 2 ^ A .a) ⊎ (2 ^ A .a ≤ x) → (y < 2 ^ A .b) ⊎ (2 ^ A .b ≤ y) → cond test found None ≡ A .step q x y
       go (inr l) dx dy = cond-false test found None (no-state l) ∙ sym (L .state-outside q x y l)
       go (inl l) (inr lx) dy = cond-false test found None (no-reading lx) ∙ sym (L .reading-outside q x y lx)
@@ -101,9 +107,9 @@ module _ (A : Arena) (L : Lawful-arena A) (duty marks : List Bool) (steps : List
           let ix : i / 8 % 8 ≡ x = ap (λ (z : ℕ). z % 8) i8 ∙ mod-mul-add q 8 x (omega arith) in
           let iq : i / 64 ≡ q = omega arith in
           let s : getD steps i None ≡ A .step q x y =
-            h .steps-at i (omega arith) ∙ ap (λ (z : ℕ). A .step z (i / 8 % 8) (i % 8)) iq ∙ ap (λ (z : ℕ). A .step q z (i % 8)) ix ∙ ap (λ (z : ℕ). A .step q x z) im in
+          h .steps-at i (omega arith) ∙ ap (λ (z : ℕ). A .step z (i / 8 % 8) (i % 8)) iq ∙ ap (λ (z : ℕ). A .step q z (i % 8)) ix ∙ ap (λ (z : ℕ). A .step q x z) im in
           cond-true test found None (and-from (ltb q (A .n) && ltb x (2 ^ A .a)) _
-            (and-from (ltb q (A .n)) _ (lt-ltb q (A .n) l) (lt-ltb x _ lx)) (lt-ltb y _ ly))
+          (and-from (ltb q (A .n)) _ (lt-ltb q (A .n) l) (lt-ltb x _ lx)) (lt-ltb y _ ly))
           ∙ ap (λ (o : Option ℕ). onward o None (named (A .n))) s
           ∙ stored (A .n) (A .step q x y) (L .step-inside q x y)
 
@@ -123,10 +129,20 @@ none-stored R never (Some t) r = absurd (never t r)
 
 lone-lawful : Lawful-arena lone
 lone-lawful = record {
-    few-reading-bits = omega arith; few-command-bits = omega arith; few-rights = omega arith; few-states = omega arith; start-inside = omega arith;
-    step-inside = λ q x y. tt; state-outside = λ q x y l. refl; reading-outside = λ q x y l. refl; command-outside = λ q x y l. refl;
-    mark-outside = λ q l. refl; no-zeroth = λ q. refl; right-outside = λ i q l. refl; right-state-outside = λ i q l. refl
-  }
+  few-reading-bits = omega arith;
+  few-command-bits = omega arith;
+  few-rights = omega arith;
+  few-states = omega arith;
+  start-inside = omega arith;
+  step-inside = λ q x y. tt;
+  state-outside = λ q x y l. refl;
+  reading-outside = λ q x y l. refl;
+  command-outside = λ q x y l. refl;
+  mark-outside = λ q l. refl;
+  no-zeroth = λ q. refl;
+  right-outside = λ i q l. refl;
+  right-state-outside = λ i q l. refl;
+}
 
 -- lists in which nothing is stored tell the lone arena
 pub tells-lone : {duty marks : List Bool} {steps : List (Option ℕ)} → duty ≡ replicate 256 false → marks ≡ replicate 1024 false → steps ≡ replicate 16384 None →
@@ -136,7 +152,7 @@ tells-lone {duty} {marks} {steps} ed em et =
     (record {
       duty-at = λ q l. ap (λ (xs : List Bool). getD xs q false) ed ∙ getD-replicate 256 false q;
       marks-at = λ i l. ap (λ (xs : List Bool). getD xs i false) em ∙ getD-replicate 1024 false i;
-      steps-at = λ i l. ap (λ (xs : List (Option ℕ)). getD xs i None) et ∙ getD-replicate 16384 None i
+      steps-at = λ i l. ap (λ (xs : List (Option ℕ)). getD xs i None) et ∙ getD-replicate 16384 None i;
     }) 0 0 1 0 0 refl refl refl refl refl
 
 -- what a table tells is lawful
@@ -155,7 +171,11 @@ table-lawful t =
     let xs = 2 ^ t .«reading_bits» in
     let ys = 2 ^ t .«command_bits» in
     record {
-      few-reading-bits = t .«narrow_readings»; few-command-bits = t .«narrow_commands»; few-rights = t .«few_rights»; few-states = t .«few_states»; start-inside = t .«start_inside»;
+      few-reading-bits = t .«narrow_readings»;
+      few-command-bits = t .«narrow_commands»;
+      few-rights = t .«few_rights»;
+      few-states = t .«few_states»;
+      start-inside = t .«start_inside»;
       step-inside = λ q x y. tabled-inside n (ltb q n && ltb x xs && ltb y ys) _;
       state-outside = λ q x y l. cond-false _ _ None (and-left (ltb q n && ltb x xs) _ (and-left (ltb q n) _ (le-ltb q n l)));
       reading-outside = λ q x y l. cond-false _ _ None (and-left (ltb q n && ltb x xs) _ (and-right (ltb q n) _ (le-ltb x xs l)));
@@ -163,5 +183,5 @@ table-lawful t =
       mark-outside = λ q l. and-left (ltb q n) _ (le-ltb q n l);
       no-zeroth = λ q. refl;
       right-outside = λ i q l. and-left (leb 1 i && leb i (t .rights) && ltb q n) _ (and-left (leb 1 i && leb i (t .rights)) _ (and-right (leb 1 i) _ (lt-leb i (t .rights) l)));
-      right-state-outside = λ i q l. and-left (leb 1 i && leb i (t .rights) && ltb q n) _ (and-right (leb 1 i && leb i (t .rights)) _ (le-ltb q n l))
+      right-state-outside = λ i q l. and-left (leb 1 i && leb i (t .rights) && ltb q n) _ (and-right (leb 1 i && leb i (t .rights)) _ (le-ltb q n l));
     }

@@ -8,3 +8,6 @@ pub mod Found
 pub mod Solved
 pub mod Columns
 pub mod Settled
+pub mod Plays
+pub mod Following
+pub mod Meant

@@ -16,12 +16,16 @@ use Rattle.games.specs.declared.table.Table.{Table}
 -- A stored step that is no state is none
 abbrev pub tabled : (a b n start k : ℕ) → List Bool → List Bool → List (Option ℕ) → Arena
 tabled a b n start k duty marks steps = record {
-    a = a; b = b; n = n; start = start; k = k;
-    marked = λ q. ltb q n && getD duty q false;
-    right = λ i q. leb 1 i && leb i k && ltb q n && getD marks ((i - 1) * 256 + q) false;
-    step = λ q x y.
-      cond (ltb q n && ltb x (2 ^ a) && ltb y (2 ^ b)) (onward (getD steps ((q * 8 + x) * 8 + y) None) None (named n)) None
-  }
+  a = a;
+  b = b;
+  n = n;
+  start = start;
+  k = k;
+  marked = λ q. ltb q n && getD duty q false;
+  right = λ i q. leb 1 i && leb i k && ltb q n && getD marks ((i - 1) * 256 + q) false;
+  step = λ q x y.
+      cond (ltb q n && ltb x (2 ^ a) && ltb y (2 ^ b)) (onward (getD steps ((q * 8 + x) * 8 + y) None) None (named n)) None;
+}
 
 abbrev pub table-arena : Table → Arena
 table-arena t =
@@ -30,6 +34,12 @@ table-arena t =
 -- one state, with no mark, no right and no step: what a table holds before it takes over an arena
 abbrev pub lone : Arena
 lone = record {
-    a = 0; b = 0; n = 1; start = 0; k = 0;
-    marked = λ q. false; right = λ i q. false; step = λ q x y. None
-  }
+  a = 0;
+  b = 0;
+  n = 1;
+  start = 0;
+  k = 0;
+  marked = λ q. false;
+  right = λ i q. false;
+  step = λ q x y. None;
+}

@@ -53,7 +53,10 @@ impl Solver {
     pub(crate) fn is_unbroken(&self, q: u16) -> bool
         ensures { λ r. ⌜ r ≡ unbroken (solver-arena (now (self .entry))) q ⌝ }
     {
-        Unranked { ranks: self.broken.as_slice(), count: self.table.count }.has(q)
+        Unranked {
+            ranks: self.broken.as_slice(),
+            count: self.table.count,
+        }.has(q)
     }
 
     pub(crate) fn is_fenced(&self, q: u16) -> bool
@@ -61,14 +64,22 @@ impl Solver {
     {
         let columns = self.table.rights;
         let count = self.table.count;
-        Fence { broken: self.broken.as_slice(), rights: self.rights.as_slice(), columns, count }.has(q)
+        Fence {
+            broken: self.broken.as_slice(),
+            rights: self.rights.as_slice(),
+            columns,
+            count,
+        }.has(q)
     }
 
     // Whether a reading is lawful at a state.
     pub fn is_lawful(&self, q: u16, x: u8) -> bool
         ensures { λ r. ⌜ r ≡ lawful (solver-arena (now (self .entry))) q x ⌝ }
     {
-        let unbroken = Unranked { ranks: self.broken.as_slice(), count: self.table.count };
+        let unbroken = Unranked {
+            ranks: self.broken.as_slice(),
+            count: self.table.count,
+        };
         is_lawful(&self.table, &unbroken, q, x)
     }
 

@@ -53,7 +53,16 @@ impl Table {
         let duty = vec![in heap; false; 256]?;
         let marks = vec![in heap; false; 1024]?;
         let steps = vec![in heap; None; 16384]?;
-        Ok(Table { reading_bits: 0, command_bits: 0, count: 1, start: 0, rights: 0, duty, marks, steps })
+        Ok(Table {
+            reading_bits: 0,
+            command_bits: 0,
+            count: 1,
+            start: 0,
+            rights: 0,
+            duty,
+            marks,
+            steps,
+        })
     }
 
     // Takes over an arena's answers.

@@ -37,7 +37,11 @@ impl Solver {
     fn is_in(&self, column: u8, q: u16) -> bool
         ensures { λ r. ⌜ r ≡ region (solver-arena (now (self .entry))) column q ⌝ }
     {
-        if column == 0 { self.is_fenced(q) } else { self.is_unbroken(q) }
+        if column == 0 {
+            self.is_fenced(q)
+        } else {
+            self.is_unbroken(q)
+        }
     }
 
     // Whether a column of the ground has a reading at the state.
@@ -53,7 +57,16 @@ impl Solver {
         requires { ⌜ column ≤ solver-arena (now self) .k ⌝ }
         ensures { λ r. ⌜ r ≡ holds-off (solver-arena (now (self .entry))) column q x ⌝ }
     {
-        self.is_lawful(q, x) & all_enter(&self.table, &Lacking { solver: self, column }, q, x)
+        self.is_lawful(q, x)
+            & all_enter(
+                &self.table,
+                &Lacking {
+                    solver: self,
+                    column,
+                },
+                q,
+                x,
+            )
     }
 
     // The lowest such reading, or the number of readings where there is none.

@@ -63,7 +63,12 @@ pub(crate) fn is_lawful<P: Arena, U: States>(arena: &P, unbroken: &U, q: u16, x:
 }
 
 // Whether every lawful reading has a command into the set.
-pub(crate) fn forces<P: Arena, U: States, S: States>(arena: &P, unbroken: &U, set: &S, q: u16) -> bool
+pub(crate) fn forces<P: Arena, U: States, S: States>(
+    arena: &P,
+    unbroken: &U,
+    set: &S,
+    q: u16,
+) -> bool
     ensures { λ r. ⌜ r ≡ forces-by (arena-of P·Automaton P·Arena (now (arena .entry))) (lawful-by (arena-of P·Automaton P·Arena (now (arena .entry))) (U·States .has (now (unbroken .entry)))) (S·States .has (now (set .entry))) q ⌝ }
 {
     let mut all = true;

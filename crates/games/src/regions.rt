@@ -39,7 +39,13 @@ fn find_right(table: &Table, broken: &[u16], j: u8, ranks: &mut [u16])
     ensures { λ _. ⌜ Column-found (table-arena (now (table .entry))) (suc j) (now (ranks .exit)) ⌝ }
 {
     let count = table.count();
-    let rule = RightColumn { unbroken: Unranked { ranks: broken, count }, right: j + 1 };
+    let rule = RightColumn {
+        unbroken: Unranked {
+            ranks: broken,
+            count,
+        },
+        right: j + 1,
+    };
     search(table, &rule, &mut ranks[0..count as usize]);
 }
 
@@ -63,9 +69,21 @@ fn find_duty(table: &Table, broken: &[u16], rights: &[u16], duty: &mut [u16])
     ensures { λ _. ⌜ Column-found (table-arena (now (table .entry))) 0 (now (duty .exit)) ⌝ }
 {
     let count = table.count();
-    let unbroken = Unranked { ranks: broken, count };
-    let fence = Fence { broken, rights, columns: table.rights(), count };
-    search(table, &DutyColumn { unbroken, fence }, &mut duty[0..count as usize]);
+    let unbroken = Unranked {
+        ranks: broken,
+        count,
+    };
+    let fence = Fence {
+        broken,
+        rights,
+        columns: table.rights(),
+        count,
+    };
+    search(
+        table,
+        &DutyColumn { unbroken, fence },
+        &mut duty[0..count as usize],
+    );
 }
 
 // The ranks of the broken states and of every column.
@@ -83,7 +101,12 @@ fn find_all(table: &Table, broken: &mut [u16], rights: &mut [u16], duty: &mut [u
 }
 
 // The ranks of the broken states and of every column, into lists that have room for them.
-pub(crate) fn find_regions(table: &Table, broken: &mut Vec<u16>, rights: &mut Vec<u16>, duty: &mut Vec<u16>)
+pub(crate) fn find_regions(
+    table: &Table,
+    broken: &mut Vec<u16>,
+    rights: &mut Vec<u16>,
+    duty: &mut Vec<u16>,
+)
     requires one { ⌜ vec-len (now broken) ≡ 256 ⌝ }
     requires four { ⌜ vec-len (now rights) ≡ 1024 ⌝ }
     requires last { ⌜ vec-len (now duty) ≡ 256 ⌝ }
@@ -94,5 +117,10 @@ pub(crate) fn find_regions(table: &Table, broken: &mut Vec<u16>, rights: &mut Ve
     ensures rights_found { λ _. ⌜ Rights-found (table-arena (now (table .entry))) (table-arena (now (table .entry)) .k) (vec-items (now (rights .exit))) ⌝ }
     ensures duty_found { λ _. ⌜ Column-found (table-arena (now (table .entry))) 0 (vec-items (now (duty .exit))) ⌝ }
 {
-    find_all(table, broken.as_mut_slice(), rights.as_mut_slice(), duty.as_mut_slice());
+    find_all(
+        table,
+        broken.as_mut_slice(),
+        rights.as_mut_slice(),
+        duty.as_mut_slice(),
+    );
 }

@@ -14,7 +14,13 @@ use automata::arena::Arena;
 use automata::automaton::Automaton;
 
 // Gives a state the next rank if it has none and joins given the stage. Answers whether it did.
-fn visit<P: Arena, J: JoiningRule>(arena: &P, rule: &J, ranks: &mut [u16], stage: u16, q: u16) -> bool
+fn visit<P: Arena, J: JoiningRule>(
+    arena: &P,
+    rule: &J,
+    ranks: &mut [u16],
+    stage: u16,
+    q: u16,
+) -> bool
     requires few { ⌜ stage < 65534 ⌝ }
     requires long { ⌜ length (now ranks) ≡ P·Automaton .n (now arena) ⌝ }
     requires inside { ⌜ q < length (now ranks) ⌝ }

@@ -77,7 +77,10 @@ pub(crate) impl<'a, 'b> States for Fence<'a, 'b> as FenceStates {
     ghost has = { λ s q. (ltb q (s .count) && eqb (getD (at (s .broken)) q 0) 65535) && all (s .columns) (λ j. not (eqb (getD (at (s .rights)) (j * 256 + q) 0) 65535)) };
 
     fn has(&self, q: u16) -> bool {
-        let unbroken = Unranked { ranks: self.broken, count: self.count };
+        let unbroken = Unranked {
+            ranks: self.broken,
+            count: self.count,
+        };
         unbroken.has(q) && in_all(self.rights, self.columns, q)
     }
 }

@@ -53,7 +53,10 @@ pub impl Automaton for Table as TableAutomaton {
 
     fn step(&self, q: u16, x: u8, y: u8) -> Option<u16> {
         if q < self.count && x < 1 << self.reading_bits && y < 1 << self.command_bits {
-            stored(self.steps[(q as usize * 8 + x as usize) * 8 + y as usize], self.count)
+            stored(
+                self.steps[(q as usize * 8 + x as usize) * 8 + y as usize],
+                self.count,
+            )
         } else {
             None
         }
@@ -70,6 +73,9 @@ pub impl Arena for Table as TableArena {
     }
 
     fn right(&self, i: u8, q: u16) -> bool {
-        1 <= i && i <= self.rights && q < self.count && self.marks[(i as usize - 1) * 256 + q as usize]
+        1 <= i
+            && i <= self.rights
+            && q < self.count
+            && self.marks[(i as usize - 1) * 256 + q as usize]
     }
 }

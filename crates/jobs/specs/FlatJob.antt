@@ -61,10 +61,10 @@ abbrev pub flat-job : List ℕ → Result Head JobFault
 flat-job bs =
     cond (leads bs)
     (cond (narrow bs)
-      (cond (leb (byte bs 5) 4)
-        (cond (rest-fits bs) (Ok (head bs)) (Err (Malformed 0)))
-        (Err TooManyRights))
-      (Err TooManyBits))
+    (cond (leb (byte bs 5) 4)
+    (cond (rest-fits bs) (Ok (head bs)) (Err (Malformed 0)))
+    (Err TooManyRights))
+    (Err TooManyBits))
     (Err NotAJob)
 
 -- what the reader answers, by its numbers

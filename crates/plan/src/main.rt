@@ -23,7 +23,10 @@ fn read_job(rt: &(impl Input + Alloc<A = Global>)) -> Result<Vec<u8>, AnyError> 
     for line in rt.lines(rt.alloc()) {
         let line = line?;
         for word in line.split_whitespace() {
-            job.push(word.parse::<u8>()?)?;
+            let Ok(byte) = word.parse::<u8>() else {
+                return Err("standard input is not a list of numbers from 0 to 255".into());
+            };
+            job.push(byte)?;
         }
     }
     Ok(job)
@@ -59,7 +62,13 @@ fn show_verdict<P: Arena>(out: &mut String, arena: &P, verdict: Verdict) -> Resu
 }
 
 // A ranked state's line: column, state, rank and a command set for each reading.
-fn show_state<P: Arena>(out: &mut String, arena: &P, solver: &Solver, column: u8, q: u16) -> Result<(), AnyError> {
+fn show_state<P: Arena>(
+    out: &mut String,
+    arena: &P,
+    solver: &Solver,
+    column: u8,
+    q: u16,
+) -> Result<(), AnyError> {
     let rank = solver.rank(column, q);
     if rank == 65535 {
         return Ok(());
@@ -83,7 +92,12 @@ fn show_ranks<P: Arena>(out: &mut String, arena: &P, solver: &Solver) -> Result<
 }
 
 // A ground column's line: its number and its bytes.
-fn show_ground_column<P: Arena>(out: &mut String, arena: &P, solver: &Solver, column: u8) -> Result<(), AnyError> {
+fn show_ground_column<P: Arena>(
+    out: &mut String,
+    arena: &P,
+    solver: &Solver,
+    column: u8,
+) -> Result<(), AnyError> {
     write!(out, "{column}")?;
     for q in 0..arena.count() {
         let byte = solver.ground_byte(column, q);
@@ -115,15 +129,20 @@ fn show_arena<P: Arena>(out: &mut String, arena: &P, solver: &mut Solver) -> Res
     }
 }
 
-fn run(rt: &LibcRuntime) -> Result<(), AnyError> {
-    let job = read_job(rt)?;
-    let mut solver = Solver::new(rt.alloc())?;
-    let mut out = String::new(rt.alloc());
-    let bytes = job.as_slice();
+// Everything that is printed of a job.
+fn show_job(heap: Global, bytes: &[u8]) -> Result<String, AnyError> {
+    let mut solver = Solver::new(heap)?;
+    let mut out = String::new(heap);
     match read_flat(bytes) {
         Err(fault) => show_job_fault(&mut out, fault)?,
         Ok(header) => show_arena(&mut out, &Flat { header, bytes }, &mut solver)?,
     }
+    Ok(out)
+}
+
+fn run(rt: &LibcRuntime) -> Result<(), AnyError> {
+    let job = read_job(rt)?;
+    let out = show_job(rt.alloc(), job.as_slice())?;
     rt.print(out.as_str())?;
     Ok(())
 }
@@ -131,3 +150,6 @@ fn run(rt: &LibcRuntime) -> Result<(), AnyError> {
 fn main(rt: LibcRuntime) -> Result<(), AnyError> {
     rt.report(run(&rt))
 }
+
+#[cfg(test)]
+mod tests;

@@ -21,6 +21,6 @@ loop-j-again c j q l =
     let k = m * 256 + 256 - m * 256 in
     ⊎-elim
     (λ (e : j ≡ m). subst (λ (i : ℕ). getD (putMid (m * 256) k old xs) (i * 256 + q) 0 ≡ rank (table-arena (c .args .table .now)) (suc i) q) (sym e)
-      (put-inside (m * 256) k old xs q (omega arith) (omega arith) ∙ c .find-right .ensures q ql))
+    (put-inside (m * 256) k old xs q (omega arith) (omega arith) ∙ c .find-right .ensures q ql))
     (λ (e : j ≡ m → ⊥). put-before (m * 256) k old xs (j * 256 + q) (omega arith) (omega arith) ∙ c .loop-j .inv j q (omega arith, ql))
     (cases-eq j m)

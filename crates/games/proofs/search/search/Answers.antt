@@ -14,9 +14,10 @@ loop-stage-again g c =
     let arena = c .args .arena .now in
     let A = arena-of (g .P·Automaton) (g .P·Arena) arena in
     let rule = c .args .rule .now in
-    let mono : Monotone (A .n) (g .J·JoiningRule .joins rule A) = g .J·JoiningRule·met .grows rule A (g .P·Automaton·met .enters arena) in
-    (row-more (A .n) (g .J·JoiningRule .first rule A) (g .J·JoiningRule .joins rule A) mono (c .loop-stage .ranks) (c .loop-stage .stage) (omega arith) (c .loop-stage .inv .0) (c .pass .last .ranks) (c .pass .kept .ranks) (c .pass .ensures .passed),
-      omega arith)
+    let mono : Monotone (A .n) (g .J·JoiningRule .joins rule A) = g .J·JoiningRule·met .grows rule A (g .P·Automaton·met .enters arena) in (
+      row-more (A .n) (g .J·JoiningRule .first rule A) (g .J·JoiningRule .joins rule A) mono (c .loop-stage .ranks) (c .loop-stage .stage) (omega arith) (c .loop-stage .inv .0) (c .pass .last .ranks) (c .pass .kept .ranks) (c .pass .ensures .passed),
+      omega arith,
+    )
 
 pub returns-else-pass : need.returns-else-pass
 returns-else-pass g c =

@@ -18,5 +18,5 @@ returns c =
     let y : c .power-2 .result ≤ 8 = omega (arith, c .power-2 .ensures, pow-mono b) in
     record {
       value = ap₂ _*_ (ap₂ _*_ (c .at .ensures) (c .power .ensures ∙ ap (λ k. 2 ^ k) (c .at-2 .ensures))) (c .power-2 .ensures ∙ ap (λ k. 2 ^ k) (c .at-3 .ensures));
-      bound = mul-le (c .at .result * c .power .result) (c .power-2 .result) 2040 8 (mul-le (c .at .result) (c .power .result) 255 8 (omega arith) x) y
+      bound = mul-le (c .at .result * c .power .result) (c .power-2 .result) 2040 8 (mul-le (c .at .result) (c .power .result) 255 8 (omega arith) x) y;
     }

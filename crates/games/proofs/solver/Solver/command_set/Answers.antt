@@ -36,6 +36,6 @@ loop-y-again c =
     let w : 2 ^ t .«command_bits» ≤ 2 ^ 3 = pow-mono (t .«narrow_commands») in
     let h : y < 8 = omega (arith, c .commands-y-end .ensures) in
     elim (c .if-permits .came) [
-      then-permits w ↦ w .byte-is ∙ omega (arith, one-shl y 8 h, c .loop-y .inv, bits-true y f (sym (c .permits .ensures) ∙ w .if-permits .taken))
-    | else-permits w ↦ w .byte-is ∙ c .loop-y .inv ∙ sym (bits-false y f (sym (c .permits .ensures) ∙ w .if-permits .left))
+      | then-permits w ↦ w .byte-is ∙ omega (arith, one-shl y 8 h, c .loop-y .inv, bits-true y f (sym (c .permits .ensures) ∙ w .if-permits .taken))
+      | else-permits w ↦ w .byte-is ∙ c .loop-y .inv ∙ sym (bits-false y f (sym (c .permits .ensures) ∙ w .if-permits .left))
     ]

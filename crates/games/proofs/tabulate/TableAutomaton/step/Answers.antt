@@ -26,7 +26,7 @@ pub index-requires : need.index-requires
 index-requires c κs =
     let t = c .args .self .now in
     place t (c .args .q) (c .args .x) (c .args .y) (c .if-q-self .taken)
-      (omega (arith, one-shl (t .«reading_bits») 8 (omega arith))) (omega (arith, one-shl (t .«command_bits») 8 (omega arith)))
+    (omega (arith, one-shl (t .«reading_bits») 8 (omega arith))) (omega (arith, one-shl (t .«command_bits») 8 (omega arith)))
 
 pub returns-then-y-self : need.returns-then-y-self
 returns-then-y-self c =
