@@ -1,0 +1,11 @@
+pub mod Operators
+pub mod Numbers
+pub mod Formulas
+pub mod Tokens
+pub mod Reading
+pub mod Passing
+pub mod Laws
+pub mod Words
+pub mod Codes
+pub mod Judged
+pub mod Making
