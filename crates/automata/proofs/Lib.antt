@@ -1,2 +1,3 @@
 pub mod PairLaws
 pub mod RangeLaws
+pub mod WalkLaws

@@ -6,3 +6,4 @@ pub mod Flat
 pub mod Machine
 pub mod Layers
 pub mod Table
+pub mod Walks

@@ -1,5 +1,8 @@
 // Ground and duty: an arena with the duty's mark and no right.
 ghost use mathlib.Core.Bool.{false};
+ghost use mathlib.Core.Path.{_≡_};
+ghost use Prim.Native.Nat.{_*_, _≤_};
+ghost use Rattle.automata.specs.Walks.{Carries};
 ghost use Rattle.automata.specs.Machine.{«machine-of»};
 ghost use Rattle.automata.specs.Layers.{«with-duty»};
 use crate::arena::Arena;
@@ -12,6 +15,17 @@ use crate::pairs::product;
 pub struct WithDuty<G, D> {
     pub ground: G,
     pub duty: D,
+}
+
+impl<G: Automaton, D: Automaton> WithDuty<G, D> {
+    // Pairs a ground and a duty. Over every word the pair stands at its parts' states, marked exactly
+    // if the duty is, and is led to none where a part is.
+    pub fn of(ground: G, duty: D) -> WithDuty<G, D>
+        ensures made { λ r. ⌜ (r .ground ≡ ground) × (r .duty ≡ duty) ⌝ }
+        ensures carries { λ r. ⌜ (G·Automaton .n ground * D·Automaton .n duty ≤ 256 → Carries (machine-of G·Automaton ground) (machine-of D·Automaton duty)) ⌝ }
+    {
+        WithDuty { ground, duty }
+    }
 }
 
 pub impl<G: Automaton, D: Automaton> Automaton for WithDuty<G, D> as DutyAutomaton {

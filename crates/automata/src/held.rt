@@ -1,4 +1,7 @@
 // Held: once marked, marked for good.
+ghost use mathlib.Core.Path.{_≡_};
+ghost use Prim.Native.Nat.{_≤_};
+ghost use Rattle.automata.specs.Walks.{Holds};
 ghost use Rattle.automata.specs.Machine.{«machine-of»};
 ghost use Rattle.automata.specs.Layers.{held};
 use crate::automaton::Automaton;
@@ -6,6 +9,17 @@ use crate::automaton::Automaton;
 #[derive(Drop)]
 pub struct Held<A> {
     pub below: A,
+}
+
+impl<A: Automaton> Held<A> {
+    // Holds the marks of an automaton. Over every word it then stands where the automaton does, and
+    // is marked exactly if that was marked at the start or after some front of the word.
+    pub fn over(below: A) -> Held<A>
+        ensures made { λ r. ⌜ r .below ≡ below ⌝ }
+        ensures holds { λ r. ⌜ (A·Automaton .n below ≤ 128 → Holds (machine-of A·Automaton below)) ⌝ }
+    {
+        Held { below }
+    }
 }
 
 pub impl<A: Automaton> Automaton for Held<A> as HeldAutomaton {

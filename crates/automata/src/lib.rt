@@ -12,3 +12,4 @@ pub mod right;
 pub mod shape;
 pub mod table;
 pub mod widths;
+pub mod word;

@@ -1,5 +1,7 @@
 // An arena and one right more, whose mark comes last.
 ghost use mathlib.Core.Path.{_≡_};
+ghost use Prim.Native.Nat.{_*_, _<_, _≤_};
+ghost use Rattle.automata.specs.Walks.{Adds};
 ghost use Rattle.automata.specs.Machine.{«machine-of»};
 ghost use Rattle.automata.specs.Arena.{«arena-of»};
 ghost use Rattle.automata.specs.Layers.{«right-fits», «with-right», «more-rights», «right-marks»};
@@ -13,6 +15,17 @@ use crate::pairs::product;
 pub struct WithRight<P, R> {
     pub arena: P,
     pub right: R,
+}
+
+impl<P: Arena, R: Automaton> WithRight<P, R> {
+    // Adds a right to an arena. Over every word the pair stands at its parts' states, with the marks
+    // of the arena and, as the last right's, that of the right; it is led to none where a part is.
+    pub fn of(arena: P, right: R) -> WithRight<P, R>
+        ensures made { λ r. ⌜ (r .arena ≡ arena) × (r .right ≡ right) ⌝ }
+        ensures adds { λ r. ⌜ (P·Automaton .n arena * R·Automaton .n right ≤ 256 → P·Arena .k arena < 4 → Adds (arena-of P·Automaton P·Arena arena) (machine-of R·Automaton right)) ⌝ }
+    {
+        WithRight { arena, right }
+    }
 }
 
 // Whether the pair has few enough states and rights.

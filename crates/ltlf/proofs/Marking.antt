@@ -16,7 +16,7 @@ use Rattle.ltlf.specs.Codes.{shows, while-open, until-code, codes, stepped, ma
 use Rattle.ltlf.specs.declared.formula.Unary.the-variants.{Not, Next, Eventually, Always}
 use Rattle.ltlf.specs.declared.formula.Binary.{Binary}
 use Rattle.ltlf.specs.declared.formula.Binary.the-variants.{And, Or, Until}
-use Rattle.ltlf.specs.declared.word.Round.{Round}
+use Rattle.automata.specs.declared.word.Round.{Round}
 use Rattle.ltlf.proofs.Truths.{nope, and-left, and-right, both, or-right}
 use Rattle.ltlf.proofs.Sides.{codes-some, codes-two, low, high, together}
 

@@ -15,10 +15,10 @@ use Rattle.automata.specs.Steps.{Inside, onward}
 use Rattle.ltlf.specs.Formulas.{Ltl, truth, digit, one, two, unnested, terms}
 use Rattle.ltlf.specs.Words.{Holds, Satisfies, in-range}
 use Rattle.ltlf.specs.Codes.{codes, stepped, marks, count, rule-step, rule-marked, later, code-after, number-of}
-use Rattle.ltlf.specs.Judged.{led}
+use Rattle.automata.specs.Walks.{led}
 use Rattle.ltlf.specs.declared.formula.Unary.the-variants.{Not, Next, Eventually, Always}
 use Rattle.ltlf.specs.declared.formula.Binary.the-variants.{And, Or, Until}
-use Rattle.ltlf.specs.declared.word.Round.{Round}
+use Rattle.automata.specs.declared.word.Round.{Round}
 use Rattle.ltlf.proofs.Truths.{nope, and-left, and-right, both}
 use Rattle.ltlf.proofs.Sides.{codes-some}
 use Rattle.ltlf.proofs.Marking.{stepped-lt, later-lt, two-codes, not-later, after}

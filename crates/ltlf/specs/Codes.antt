@@ -9,7 +9,7 @@ use Rattle.ltlf.specs.Formulas.{Ltl, truth, digit, one, two, terms}
 use Rattle.ltlf.specs.Words.{digit-bit}
 use Rattle.ltlf.specs.declared.formula.Unary.{Unary}
 use Rattle.ltlf.specs.declared.formula.Unary.the-variants.{Not, Next, Eventually, Always}
-use Rattle.ltlf.specs.declared.word.Round.{Round}
+use Rattle.automata.specs.declared.word.Round.{Round}
 use Rattle.std.specs.declared.option.Option.{Option}
 use Rattle.std.specs.declared.option.Option.the-variants.{Some, None}
 

@@ -6,17 +6,12 @@ use Prim.Native.Nat.{ℕ, _+_}
 use Rattle.std.specs.Orderings.{Decides}
 use Rattle.std.specs.declared.option.Option.{Option}
 use Rattle.std.specs.declared.option.Option.the-variants.{Some, None}
-use Rattle.automata.specs.Steps.{onward}
+use Rattle.automata.specs.Walks.{led}
 use Rattle.automata.specs.declared.automaton.Automaton.{Ghosts as Automatic}
 use Rattle.ltlf.specs.Formulas.{Ltl, terms}
 use Rattle.ltlf.specs.Words.{Satisfies, in-range}
 use Rattle.ltlf.specs.Codes.{code-after, number-of}
-use Rattle.ltlf.specs.declared.word.Round.{Round}
-
--- where steps lead from a state over a word
-abbrev pub led : (ℕ → ℕ → ℕ → Option ℕ) → ℕ → List Round → Option ℕ
-led step q [] = Some q
-led step q (r ∷ w) = onward (step q (r .reading) (r .command)) None (λ t. led step t w)
+use Rattle.automata.specs.declared.word.Round.{Round}
 
 -- where an automaton's steps lead from its start
 abbrev pub reached : {S : Type 0} → Automatic S → S → List Round → Option ℕ

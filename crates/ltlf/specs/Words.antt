@@ -10,7 +10,7 @@ use Rattle.automata.specs.Ranges.{bit}
 use Rattle.ltlf.specs.Formulas.{Ltl, truth, digit, one, two}
 use Rattle.ltlf.specs.declared.formula.Unary.the-variants.{Not, Next, Eventually, Always}
 use Rattle.ltlf.specs.declared.formula.Binary.the-variants.{And, Or, Until}
-use Rattle.ltlf.specs.declared.word.Round.{Round}
+use Rattle.automata.specs.declared.word.Round.{Round}
 
 -- the bit of a round that a digit stands for: digit j below a is reading bit j, and digit a + j is command bit j
 abbrev pub digit-bit : ℕ → Round → ℕ → Bool

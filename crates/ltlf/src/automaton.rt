@@ -2,8 +2,8 @@
 ghost use Rattle.ltlf.specs.Formulas.{shape};
 ghost use Rattle.ltlf.specs.Codes.{count as states, rule-step, rule-marked};
 use crate::rule::Rule;
-use crate::word::Round;
 use automata::automaton::Automaton;
+use automata::word::Round;
 
 pub impl Automaton for Rule as RuleAutomaton {
     ghost a = { λ s. s .widths .«reading_bits» };

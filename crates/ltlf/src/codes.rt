@@ -7,7 +7,8 @@ ghost use Rattle.ltlf.specs.Formulas.{shape, terms};
 ghost use Rattle.ltlf.specs.Codes.{shows, while-open, one-code, until-code, codes as coded, stepped, one-mark, marks};
 use crate::formula::Formula;
 use crate::formula::Unary;
-use crate::word::Round;
+use crate::word::digit_bit;
+use automata::word::Round;
 
 fn opened(c: u16, then: u16) -> u16
     ensures { λ r. ⌜ r ≡ while-open c «then» ⌝ }
@@ -60,7 +61,7 @@ impl Formula {
     {
         match self {
             Formula::Truth(v) => *v,
-            Formula::Digit(j) => round.bit(a, *j),
+            Formula::Digit(j) => digit_bit(round, a, *j),
             Formula::Unary(op, p) => if op.is_temporal() {
                 false
             } else {
@@ -95,7 +96,11 @@ impl Formula {
     {
         match self {
             Formula::Truth(_) => 0,
-            Formula::Digit(j) => if first { code(round.bit(a, *j)) } else { c },
+            Formula::Digit(j) => if first {
+                code(digit_bit(round, a, *j))
+            } else {
+                c
+            },
             Formula::Unary(op, p) => {
                 if op.is_temporal() {
                     op.code(first, p.shown(a, round), c)

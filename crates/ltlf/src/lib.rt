@@ -10,4 +10,4 @@ pub mod rule;
 mod text;
 mod token;
 pub mod widths;
-pub mod word;
+mod word;
