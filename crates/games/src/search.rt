@@ -5,7 +5,7 @@ ghost use Prim.Native.Nat.{ℕ, _+_, _<_, _≤_};
 ghost use lib.Dec.{eqb};
 ghost use lib.ListN.{length, getD, set};
 ghost use Rattle.automata.specs.Arena.{«arena-of»};
-ghost use Rattle.games.specs.Search.{«ranked-by», Ranks};
+ghost use Rattle.games.specs.Search.{«ranked-by», Ranks, Settled};
 ghost use Rattle.games.specs.Passes.{Passed};
 use crate::rule::JoiningRule;
 use crate::states::Stage;
@@ -63,7 +63,8 @@ fn seed<P: Arena, J: JoiningRule>(arena: &P, rule: &J, ranks: &mut [u16])
 pub(crate) fn search<P: Arena, J: JoiningRule>(arena: &P, rule: &J, ranks: &mut [u16])
     requires few { ⌜ P·Automaton .n (now arena) ≤ 256 ⌝ }
     requires long { ⌜ length (now ranks) ≡ P·Automaton .n (now arena) ⌝ }
-    ensures { λ _. ⌜ Ranks (P·Automaton .n (now (arena .entry))) (J·JoiningRule .first (now (rule .entry)) (arena-of P·Automaton P·Arena (now (arena .entry)))) (J·JoiningRule .joins (now (rule .entry)) (arena-of P·Automaton P·Arena (now (arena .entry)))) (now (ranks .exit)) ⌝ }
+    ensures ranks { λ _. ⌜ Ranks (P·Automaton .n (now (arena .entry))) (J·JoiningRule .first (now (rule .entry)) (arena-of P·Automaton P·Arena (now (arena .entry)))) (J·JoiningRule .joins (now (rule .entry)) (arena-of P·Automaton P·Arena (now (arena .entry)))) (now (ranks .exit)) ⌝ }
+    ensures settled { λ _. ⌜ Settled (P·Automaton .n (now (arena .entry))) (J·JoiningRule .first (now (rule .entry)) (arena-of P·Automaton P·Arena (now (arena .entry)))) (J·JoiningRule .joins (now (rule .entry)) (arena-of P·Automaton P·Arena (now (arena .entry)))) ⌝ }
 {
     seed(arena, rule, ranks);
     let count = arena.count();

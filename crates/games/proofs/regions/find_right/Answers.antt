@@ -11,5 +11,5 @@ use Rattle.games.proofs.regions.find_right.Needs as need
 pub returns : need.returns
 returns c q l =
     let t = c .args .table .now in
-    getD-append-left (c .search .last .ranks) _ 0 q (omega (arith, c .search .ensures .long))
-    ∙ right-found (table-arena t) (table-lawful t) (c .args .broken .now) (c .pre .found) (c .args .j) (c .search .last .ranks) (c .count-count .result) (c .args .j + 1) (c .count-count .ensures) (add-one (c .args .j)) (c .search .ensures) q l
+    getD-append-left (c .search .last .ranks) _ 0 q (omega (arith, c .search .ensures .ranks .long))
+    ∙ right-found (table-arena t) (table-lawful t) (c .args .broken .now) (c .pre .found) (c .args .j) (c .search .last .ranks) (c .count-count .result) (c .args .j + 1) (c .count-count .ensures) (add-one (c .args .j)) (c .search .ensures .ranks) q l
