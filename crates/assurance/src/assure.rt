@@ -47,11 +47,11 @@ pub fn assure<P: Arena>(
     buffer: &mut [u8],
     entries: &mut [Entry],
 ) -> Result<Outcome, PlanFault>
-    ensures answer { verdict_of result ≡ planned_answer (arena_of P.Automaton P.Arena arena.now) (length buffer.old) }
-    ensures buffer { buffer.new ≡ planned_buffer (arena_of P.Automaton P.Arena arena.now) buffer.old }
-    ensures meant { P.Automaton.n arena.now ≤ 256 → Meant (arena_of P.Automaton P.Arena arena.now) }
-    ensures runs { P.Automaton.n arena.now ≤ 256 → (rounds : ℕ) → verdict-on (arena_of P.Automaton P.Arena arena.now) ≡ Planned rounds → Holds (arena_of P.Automaton P.Arena arena.now) rounds }
-    ensures assured { Assured (arena_of P.Automaton P.Arena arena.now) buffer.new entries.old entries.new result }
+    ensures answer { verdict_of result ≡ planned_answer (arena_of P.Automaton P.Arena.own arena.now) (length buffer.old) }
+    ensures buffer { buffer.new ≡ planned_buffer (arena_of P.Automaton P.Arena.own arena.now) buffer.old }
+    ensures meant { P.Automaton.n arena.now ≤ 256 → Meant (arena_of P.Automaton P.Arena.own arena.now) }
+    ensures runs { P.Automaton.n arena.now ≤ 256 → (rounds : ℕ) → verdict-on (arena_of P.Automaton P.Arena.own arena.now) ≡ Planned rounds → Holds (arena_of P.Automaton P.Arena.own arena.now) rounds }
+    ensures assured { Assured (arena_of P.Automaton P.Arena.own arena.now) buffer.new entries.old entries.new result }
 {
     let verdict = planner.plan(arena, buffer)?;
     match verdict {

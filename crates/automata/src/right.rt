@@ -23,7 +23,7 @@ impl<P: Arena, R: Automaton> WithRight<P, R> {
     // of the arena and, as the last right's, that of the right; it is led to none where a part is.
     pub fn of(arena: P, right: R) -> WithRight<P, R>
         ensures made { (result.arena ≡ arena) × (result.right ≡ right) }
-        ensures adds { P.Automaton.n arena * R.Automaton.n right ≤ 256 → P.Arena.k arena < 4 → Adds (arena_of P.Automaton P.Arena arena) (machine_of R.Automaton right) }
+        ensures adds { P.Automaton.n arena * R.Automaton.n right ≤ 256 → P.Arena.k arena < 4 → Adds (arena_of P.Automaton P.Arena.own arena) (machine_of R.Automaton right) }
     {
         WithRight { arena, right }
     }
@@ -31,23 +31,23 @@ impl<P: Arena, R: Automaton> WithRight<P, R> {
 
 // Whether the pair has few enough states and rights.
 fn fits<P: Arena, R: Automaton>(arena: &P, right: &R) -> bool
-    ensures { result ≡ right_fits (arena_of P.Automaton P.Arena arena.now) (machine_of R.Automaton right.now) }
+    ensures { result ≡ right_fits (arena_of P.Automaton P.Arena.own arena.now) (machine_of R.Automaton right.now) }
 {
     product(arena, right) <= 256 && arena.rights() < 4
 }
 
 impl<P: Arena, R: Automaton> Automaton for WithRight<P, R> {
-    ghost a = { λ s. (with_right (arena_of P.Automaton P.Arena s.arena) (machine_of R.Automaton s.right)).a };
+    ghost a = { λ s. (with_right (arena_of P.Automaton P.Arena.own s.arena) (machine_of R.Automaton s.right)).a };
 
-    ghost b = { λ s. (with_right (arena_of P.Automaton P.Arena s.arena) (machine_of R.Automaton s.right)).b };
+    ghost b = { λ s. (with_right (arena_of P.Automaton P.Arena.own s.arena) (machine_of R.Automaton s.right)).b };
 
-    ghost n = { λ s. (with_right (arena_of P.Automaton P.Arena s.arena) (machine_of R.Automaton s.right)).n };
+    ghost n = { λ s. (with_right (arena_of P.Automaton P.Arena.own s.arena) (machine_of R.Automaton s.right)).n };
 
-    ghost start = { λ s. (with_right (arena_of P.Automaton P.Arena s.arena) (machine_of R.Automaton s.right)).start };
+    ghost start = { λ s. (with_right (arena_of P.Automaton P.Arena.own s.arena) (machine_of R.Automaton s.right)).start };
 
-    ghost marked = { λ s. (with_right (arena_of P.Automaton P.Arena s.arena) (machine_of R.Automaton s.right)).marked };
+    ghost marked = { λ s. (with_right (arena_of P.Automaton P.Arena.own s.arena) (machine_of R.Automaton s.right)).marked };
 
-    ghost step = { λ s. (with_right (arena_of P.Automaton P.Arena s.arena) (machine_of R.Automaton s.right)).step };
+    ghost step = { λ s. (with_right (arena_of P.Automaton P.Arena.own s.arena) (machine_of R.Automaton s.right)).step };
 
     ghost narrow = { Prim.search rules };
 
@@ -127,9 +127,9 @@ impl<P: Arena, R: Automaton> Automaton for WithRight<P, R> {
 }
 
 impl<P: Arena, R: Automaton> Arena for WithRight<P, R> {
-    ghost k = { λ s. more_rights (arena_of P.Automaton P.Arena s.arena) (machine_of R.Automaton s.right) };
+    ghost k = { λ s. more_rights (arena_of P.Automaton P.Arena.own s.arena) (machine_of R.Automaton s.right) };
 
-    ghost right = { λ s. right_marks (arena_of P.Automaton P.Arena s.arena) (machine_of R.Automaton s.right) };
+    ghost right = { λ s. right_marks (arena_of P.Automaton P.Arena.own s.arena) (machine_of R.Automaton s.right) };
 
     ghost few = { Prim.search rules };
 

@@ -63,7 +63,7 @@ impl Table {
     // Takes over an arena's answers.
     pub(crate) fn copy<P: Arena>(&mut self, arena: &P)
         requires { P.Automaton.n arena.now ≤ 256 }
-        ensures { table_arena self.new ≡ arena_of P.Automaton P.Arena arena.now }
+        ensures { table_arena self.new ≡ arena_of P.Automaton P.Arena.own arena.now }
     {
         copy_duty(arena, self.duty.as_mut_slice());
         copy_rights(arena, self.marks.as_mut_slice());

@@ -44,7 +44,7 @@ fn any_lands<P: Arena, S: States>(arena: &P, set: &S, none: bool, q: u16, x: u8)
 
 // Whether every reading has a command that steps to none or into the set.
 pub(crate) fn breaks<P: Arena, S: States>(arena: &P, set: &S, q: u16) -> bool
-    ensures { result ≡ breaks (arena_of P.Automaton P.Arena arena.now) (S.States.has set.now) q }
+    ensures { result ≡ breaks (arena_of P.Automaton P.Arena.own arena.now) (S.States.has set.now) q }
 {
     let mut all = true;
     for x in 0..readings(arena) {
@@ -55,7 +55,7 @@ pub(crate) fn breaks<P: Arena, S: States>(arena: &P, set: &S, q: u16) -> bool
 
 // Whether the reading is lawful at the state, `unbroken` being the unbroken states.
 pub(crate) fn is_lawful<P: Arena, U: States>(arena: &P, unbroken: &U, q: u16, x: u8) -> bool
-    ensures { result ≡ lawful_by (arena_of P.Automaton P.Arena arena.now) (U.States.has unbroken.now) q x }
+    ensures { result ≡ lawful_by (arena_of P.Automaton P.Arena.own arena.now) (U.States.has unbroken.now) q x }
 {
     unbroken.has(q) && all_enter(arena, unbroken, q, x)
 }
@@ -67,7 +67,7 @@ pub(crate) fn forces<P: Arena, U: States, S: States>(
     set: &S,
     q: u16,
 ) -> bool
-    ensures { result ≡ forces_by (arena_of P.Automaton P.Arena arena.now) (lawful_by (arena_of P.Automaton P.Arena arena.now) (U.States.has unbroken.now)) (S.States.has set.now) q }
+    ensures { result ≡ forces_by (arena_of P.Automaton P.Arena.own arena.now) (lawful_by (arena_of P.Automaton P.Arena.own arena.now) (U.States.has unbroken.now)) (S.States.has set.now) q }
 {
     let mut all = true;
     for x in 0..readings(arena) {

@@ -13,11 +13,11 @@ pub(crate) trait JoiningRule {
     ghost joins: { Self → Answers → (ℕ → Bool) → ℕ → Bool };
 
     fn first<P: Arena>(&self, arena: &P, q: u16) -> bool
-        ensures { result ≡ first self.now (arena_of P.Automaton P.Arena arena.now) q };
+        ensures { result ≡ first self.now (arena_of P.Automaton P.Arena.own arena.now) q };
 
     // Whether a state joins, given a set.
     fn joins<P: Arena, S: States>(&self, arena: &P, set: &S, q: u16) -> bool
-        ensures { result ≡ joins self.now (arena_of P.Automaton P.Arena arena.now) (S.States.has set.now) q };
+        ensures { result ≡ joins self.now (arena_of P.Automaton P.Arena.own arena.now) (S.States.has set.now) q };
 
     // A rule never loses a state when its set grows.
     ghost grows: { (s : Self) (g : Answers) → StepsInside g → Monotone g.n (joins s g) };

@@ -20,7 +20,7 @@ fn visit<P: Arena, J: JoiningRule>(
     requires few { stage < 65534 }
     requires long { length ranks.old ≡ P.Automaton.n arena.now }
     requires inside { q < length ranks.old }
-    ensures asked { result ≡ (slice_index ranks.old q == 65535 && J.JoiningRule.joins rule.now (arena_of P.Automaton P.Arena arena.now) (ranked_by ranks.old stage) q) }
+    ensures asked { result ≡ (slice_index ranks.old q == 65535 && J.JoiningRule.joins rule.now (arena_of P.Automaton P.Arena.own arena.now) (ranked_by ranks.old stage) q) }
     ensures after { ranks.new ≡ (if result then slice_set ranks.old q (stage + 1) else ranks.old) }
 {
     let joins = ranks[q as usize] == 65535 && rule.joins(arena, &Stage { ranks, stage }, q);
@@ -34,7 +34,7 @@ fn visit<P: Arena, J: JoiningRule>(
 fn pass<P: Arena, J: JoiningRule>(arena: &P, rule: &J, ranks: &mut [u16], stage: u16) -> bool
     requires few { stage < 65534 }
     requires long { length ranks.old ≡ P.Automaton.n arena.now }
-    ensures passed { Passed (J.JoiningRule.joins rule.now (arena_of P.Automaton P.Arena arena.now)) ranks.old stage ranks.new }
+    ensures passed { Passed (J.JoiningRule.joins rule.now (arena_of P.Automaton P.Arena.own arena.now)) ranks.old stage ranks.new }
     ensures still { result ≡ false → ranks.new ≡ ranks.old }
 {
     let mut any = false;
@@ -47,7 +47,7 @@ fn pass<P: Arena, J: JoiningRule>(arena: &P, rule: &J, ranks: &mut [u16], stage:
 // Rank 0 for the states of the first set, no rank for the others.
 fn seed<P: Arena, J: JoiningRule>(arena: &P, rule: &J, ranks: &mut [u16])
     requires long { length ranks.old ≡ P.Automaton.n arena.now }
-    ensures { (q : ℕ) → q < length ranks.new → slice_index ranks.new q ≡ (if J.JoiningRule.first rule.now (arena_of P.Automaton P.Arena arena.now) q then 0 else 65535) }
+    ensures { (q : ℕ) → q < length ranks.new → slice_index ranks.new q ≡ (if J.JoiningRule.first rule.now (arena_of P.Automaton P.Arena.own arena.now) q then 0 else 65535) }
 {
     for q in 0..arena.count() {
         let rank = if rule.first(arena, q) { 0 } else { 65535 };
@@ -59,8 +59,8 @@ fn seed<P: Arena, J: JoiningRule>(arena: &P, rule: &J, ranks: &mut [u16])
 pub(crate) fn search<P: Arena, J: JoiningRule>(arena: &P, rule: &J, ranks: &mut [u16])
     requires few { P.Automaton.n arena.now ≤ 256 }
     requires long { length ranks.old ≡ P.Automaton.n arena.now }
-    ensures ranks { Ranks (P.Automaton.n arena.now) (J.JoiningRule.first rule.now (arena_of P.Automaton P.Arena arena.now)) (J.JoiningRule.joins rule.now (arena_of P.Automaton P.Arena arena.now)) ranks.new }
-    ensures settled { Settled (P.Automaton.n arena.now) (J.JoiningRule.first rule.now (arena_of P.Automaton P.Arena arena.now)) (J.JoiningRule.joins rule.now (arena_of P.Automaton P.Arena arena.now)) }
+    ensures ranks { Ranks (P.Automaton.n arena.now) (J.JoiningRule.first rule.now (arena_of P.Automaton P.Arena.own arena.now)) (J.JoiningRule.joins rule.now (arena_of P.Automaton P.Arena.own arena.now)) ranks.new }
+    ensures settled { Settled (P.Automaton.n arena.now) (J.JoiningRule.first rule.now (arena_of P.Automaton P.Arena.own arena.now)) (J.JoiningRule.joins rule.now (arena_of P.Automaton P.Arena.own arena.now)) }
 {
     seed(arena, rule, ranks);
     let count = arena.count();

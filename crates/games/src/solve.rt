@@ -36,7 +36,7 @@ impl Solver {
     // Takes over an arena of at most 256 states and finds its regions.
     fn take_over<P: Arena>(&mut self, arena: &P)
         requires { P.Automaton.n arena.now ≤ 256 }
-        ensures { solver_arena self.new ≡ arena_of P.Automaton P.Arena arena.now }
+        ensures { solver_arena self.new ≡ arena_of P.Automaton P.Arena.own arena.now }
     {
         self.table.copy(arena);
         find_regions(
@@ -50,11 +50,11 @@ impl Solver {
     // Takes over an arena, finds its regions, and answers the verdict on it. What the verdict means
     // for grounds and plans is part of the promise.
     pub fn solve<P: Arena>(&mut self, arena: &P) -> Result<Verdict, GameFault>
-        ensures answer { result ≡ answer (arena_of P.Automaton P.Arena arena.now) }
-        ensures holds { solver_arena self.new ≡ (if nat_le (P.Automaton.n arena.now) 256 then arena_of P.Automaton P.Arena arena.now else solver_arena self.old) }
+        ensures answer { result ≡ answer (arena_of P.Automaton P.Arena.own arena.now) }
+        ensures holds { solver_arena self.new ≡ (if nat_le (P.Automaton.n arena.now) 256 then arena_of P.Automaton P.Arena.own arena.now else solver_arena self.old) }
         ensures refused { 256 < P.Automaton.n arena.now → self.new ≡ self.old }
-        ensures meant { P.Automaton.n arena.now ≤ 256 → Meant (arena_of P.Automaton P.Arena arena.now) }
-        ensures settled { SettledRegions (arena_of P.Automaton P.Arena arena.now) }
+        ensures meant { P.Automaton.n arena.now ≤ 256 → Meant (arena_of P.Automaton P.Arena.own arena.now) }
+        ensures settled { SettledRegions (arena_of P.Automaton P.Arena.own arena.now) }
     {
         if arena.count() > 256 {
             return Err(GameFault::TooManyStates);

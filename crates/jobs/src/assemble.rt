@@ -27,8 +27,8 @@ fn add_right<P: Arena + Drop>(
 ) -> Result<WithRight<P, Part>, LoadFault>
     requires few { rights ≤ 3 }
     requires sound { Sound widths.reading_bits widths.command_bits bytes.now (rights + 2) }
-    requires made { arena_of P.Automaton P.Arena arena ≡ nested (part_by widths.reading_bits widths.command_bits bytes.now) rights }
-    ensures { MatchResult result (λ w. right_arena (arena_of P.Automaton P.Arena w.arena) (part_machine w.right) ≡ nested (part_by widths.reading_bits widths.command_bits bytes.now) (suc rights)) (λ e. e ≡ NoMemory) }
+    requires made { arena_of P.Automaton P.Arena.own arena ≡ nested (part_by widths.reading_bits widths.command_bits bytes.now) rights }
+    ensures { MatchResult result (λ w. right_arena (arena_of P.Automaton P.Arena.own w.arena) (part_machine w.right) ≡ nested (part_by widths.reading_bits widths.command_bits bytes.now) (suc rights)) (λ e. e ≡ NoMemory) }
 {
     let right = load_part(heap, widths, bytes, rights + 2)?;
     Ok(WithRight::of(arena, right))

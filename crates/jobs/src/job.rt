@@ -74,7 +74,7 @@ impl Automaton for Job {
 
     ghost mark_outside = { λ s. (job_keeps s).0.mark_outside };
 
-    ghost full_start = { λ s. (job_keeps s).0.full-start };
+    ghost full_start = { λ s. (job_keeps s).0.full_start };
 
     ghost full_step = { λ s. (job_keeps s).0.full_step };
 

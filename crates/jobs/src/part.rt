@@ -57,7 +57,7 @@ impl Automaton for Part {
 
     ghost mark_outside = { λ s. (part_sane s).mark_outside };
 
-    ghost full_start = { λ s. (part_sane s).full-start };
+    ghost full_start = { λ s. (part_sane s).full_start };
 
     ghost full_step = { λ s. (part_sane s).full_step };
 

@@ -1,6 +1,6 @@
 // From bytes to the arena of a job.
 ghost use Rattle.std.specs.Prelude.{◌≡◌, true, false};
-ghost use Rattle.jobs.specs.FlatJob.{leads as begins-as};
+ghost use Rattle.jobs.specs.FlatJob.{leads as begins_as};
 ghost use Rattle.jobs.specs.Loaded.{Loads, Composes};
 
 use crate::assemble::load_sections;
@@ -12,7 +12,7 @@ use automata::flat::Flat;
 use std::alloc::Global;
 
 fn load_flat(heap: Global, bytes: &[u8]) -> Result<Job, LoadFault>
-    requires { begins-as 70 bytes.now ≡ true }
+    requires { begins_as 70 bytes.now ≡ true }
     ensures { Loads bytes.now result }
 {
     let header = read_flat(bytes)?;
@@ -21,7 +21,7 @@ fn load_flat(heap: Global, bytes: &[u8]) -> Result<Job, LoadFault>
 }
 
 fn load_sectioned(heap: Global, bytes: &[u8]) -> Result<Job, LoadFault>
-    requires { begins-as 70 bytes.now ≡ false }
+    requires { begins_as 70 bytes.now ≡ false }
     ensures { Loads bytes.now result }
 {
     let header = read_sectioned(bytes)?;

@@ -28,7 +28,7 @@ use std::alloc::{AllocError, Global};
 // How long an arena's drive sheet is.
 fn drive_sheet_length<P: Arena>(arena: &P) -> usize
     requires { P.Automaton.n arena.now ≤ 256 }
-    ensures { result ≡ sheet_length (arena_tables (arena_of P.Automaton P.Arena arena.now)) }
+    ensures { result ≡ sheet_length (arena_tables (arena_of P.Automaton P.Arena.own arena.now)) }
 {
     lay_out(
         arena.reading_bits(),
@@ -65,11 +65,11 @@ impl Planner {
     // buffer. What a drive sheet and a ground sheet then tell, and what the verdict means for grounds
     // and plans, is part of the promise.
     pub fn plan<P: Arena>(&mut self, arena: &P, buffer: &mut [u8]) -> Result<Verdict, PlanFault>
-        ensures answer { result ≡ planned_answer (arena_of P.Automaton P.Arena arena.now) (length buffer.old) }
-        ensures buffer { buffer.new ≡ planned_buffer (arena_of P.Automaton P.Arena arena.now) buffer.old }
-        ensures opens { (rounds : ℕ) → result ≡ Ok (Planned rounds) → OpensTo (arena_tables (arena_of P.Automaton P.Arena arena.now)) buffer.new }
-        ensures reads { (right : ℕ) → result ≡ Ok (Unplayable right) → ReadsBack (arena_grounds (arena_of P.Automaton P.Arena arena.now) right) buffer.new }
-        ensures meant { P.Automaton.n arena.now ≤ 256 → Meant (arena_of P.Automaton P.Arena arena.now) }
+        ensures answer { result ≡ planned_answer (arena_of P.Automaton P.Arena.own arena.now) (length buffer.old) }
+        ensures buffer { buffer.new ≡ planned_buffer (arena_of P.Automaton P.Arena.own arena.now) buffer.old }
+        ensures opens { (rounds : ℕ) → result ≡ Ok (Planned rounds) → OpensTo (arena_tables (arena_of P.Automaton P.Arena.own arena.now)) buffer.new }
+        ensures reads { (right : ℕ) → result ≡ Ok (Unplayable right) → ReadsBack (arena_grounds (arena_of P.Automaton P.Arena.own arena.now) right) buffer.new }
+        ensures meant { P.Automaton.n arena.now ≤ 256 → Meant (arena_of P.Automaton P.Arena.own arena.now) }
     {
         if arena.count() > 256 {
             return Err(PlanFault::TooManyStates);

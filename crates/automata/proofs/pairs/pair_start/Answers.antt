@@ -10,11 +10,11 @@ place g c =
     let r = c.args.r.now in
     pair_place (g.P.Automaton.n p) (g.R.Automaton.n r) (g.P.Automaton.start p) (g.R.Automaton.start r) (g.met.P.Automaton.begins p) (g.met.R.Automaton.begins r)
 
-pub overflow-mul-result : goal.overflow-mul-result
-overflow-mul-result g c = let h = place g c in simp (c.start.ensures, c.count.ensures) (omega arith)
+pub overflow_mul-result : goal.overflow_mul-result
+overflow_mul-result g c = let h = place g c in simp (c.start.ensures, c.count.ensures) (omega arith)
 
-pub overflow-add-result : goal.overflow-add-result
-overflow-add-result g c =
+pub overflow_add-result : goal.overflow_add-result
+overflow_add-result g c =
     let p = c.args.p.now in
     let r = c.args.r.now in
     let h = pair_place (g.P.Automaton.n p) (g.R.Automaton.n r) (g.P.Automaton.start p) (g.R.Automaton.start r) (g.met.P.Automaton.begins p) (g.met.R.Automaton.begins r) in

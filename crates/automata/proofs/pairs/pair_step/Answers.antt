@@ -8,8 +8,8 @@ few g c =
     pair_fits (g.P.Automaton.n c.args.p.now) (g.R.Automaton.n c.args.r.now) _ _ c.in-Some.s c.in-Some-right.t c.requires
     (g.met.P.Automaton.enters c.args.p.now _ _ _) (g.met.R.Automaton.enters c.args.r.now _ _ _) c.in-Some.ensures c.in-Some-right.ensures
 
-pub overflow-mul-result : goal.overflow-mul-result
-overflow-mul-result g c = let h = few g c in simp c.count-n.ensures (omega arith)
+pub overflow_mul-result : goal.overflow_mul-result
+overflow_mul-result g c = let h = few g c in simp c.count-n.ensures (omega arith)
 
-pub overflow-add-result : goal.overflow-add-result
-overflow-add-result g c = let h = few g c in simp c.count-n.ensures (omega arith)
+pub overflow_add-result : goal.overflow_add-result
+overflow_add-result g c = let h = few g c in simp c.count-n.ensures (omega arith)
