@@ -7,6 +7,6 @@ pub frame-requires : goal.frame-requires
 unfolding word
 frame-requires c = record { fits = refl; laid = refl }
 
-pub invariant-of-result : goal.invariant-of-result
+pub invariant_of-result : goal.invariant_of-result
 unfolding word lawful_byte step_word set_byte whole
-invariant-of-result c = (ap whole c.frame.ensures, tt)
+invariant_of-result c = record { checked = ap whole c.frame.ensures }

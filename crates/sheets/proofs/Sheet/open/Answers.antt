@@ -5,11 +5,11 @@ use Rattle.sheets.proofs.Sheet.open.Goals as goal
 
 pub frame-requires : goal.frame-requires
 frame-requires c =
-    let p = whole_parts c.args.bytes.now (sym c.is-whole.ensures ∙ c.if-not-is-whole.false) in
+    let p = whole_parts c.args.bytes.now (sym c.is_whole.ensures ∙ c.if-not-is_whole.false) in
     record { fits = p.fits; laid = p.laid }
 
-pub returns-then-not-is-whole : goal.returns-then-not-is-whole
-returns-then-not-is-whole c = record {
+pub returns-then-not-is_whole : goal.returns-then-not-is_whole
+returns-then-not-is_whole c = record {
   answer = search rules;
   holds = search rules;
   kept = search rules;

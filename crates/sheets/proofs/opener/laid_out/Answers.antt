@@ -2,5 +2,5 @@ use Rattle.std.proofs.Common.{arith}
 use Rattle.sheets.proofs.Places.{header_total}
 use Rattle.sheets.proofs.opener.laid_out.Goals as goal
 
-pub overflow-add-total : goal.overflow-add-total
-overflow-add-total c = omega (arith, header_total c.args.bytes.now c.args.header c.requires.fits c.requires.told)
+pub overflow_add-total : goal.overflow_add-total
+overflow_add-total c = omega (arith, header_total c.args.bytes.now c.args.header c.requires.fits c.requires.told)

@@ -4,12 +4,12 @@ use Rattle.sheets.specs.declared.header.Header.{Header}
 use Rattle.sheets.proofs.Places.{frame_rank}
 use Rattle.sheets.proofs.frame.Frame.rank_word.Goals as goal
 
-pub overflow-add-self : goal.overflow-add-self
-overflow-add-self c = omega (arith, frame_rank c.args.self.now c.args.column c.args.state c.requires.column c.requires.state)
+pub overflow_add-self : goal.overflow_add-self
+overflow_add-self c = omega (arith, frame_rank c.args.self.now c.args.column c.args.state c.requires.column c.requires.state)
 
-pub word-at-requires : goal.word-at-requires
-word-at-requires c = omega (arith, frame_rank c.args.self.now c.args.column c.args.state c.requires.column c.requires.state)
+pub word_at-requires : goal.word_at-requires
+word_at-requires c = omega (arith, frame_rank c.args.self.now c.args.column c.args.state c.requires.column c.requires.state)
 
 pub returns : goal.returns
 unfolding rank_word
-returns c = c.word-at.ensures ∙ ap (λ (s : Header). word c.args.self.now.bytes.now (s.ranks_at + 2 * (c.args.column * s.count + c.args.state))) c.args.self.now.told
+returns c = c.word_at.ensures ∙ ap (λ (s : Header). word c.args.self.now.bytes.now (s.ranks_at + 2 * (c.args.column * s.count + c.args.state))) c.args.self.now.told

@@ -4,8 +4,8 @@ use Rattle.sheets.specs.declared.header.Header.{Header}
 use Rattle.sheets.proofs.Places.{frame_set}
 use Rattle.sheets.proofs.frame.Frame.set_byte.Goals as goal
 
-pub overflow-add-result : goal.overflow-add-result
-overflow-add-result c = omega (arith, frame_set c.args.self.now c.args.column c.args.state c.args.reading c.requires.column c.requires.state c.requires.reading)
+pub overflow_add-result : goal.overflow_add-result
+overflow_add-result c = omega (arith, frame_set c.args.self.now c.args.column c.args.state c.args.reading c.requires.column c.requires.state c.requires.reading)
 
 pub bounds-self-self : goal.bounds-self-self
 bounds-self-self c = omega (arith, frame_set c.args.self.now c.args.column c.args.state c.args.reading c.requires.column c.requires.state c.requires.reading)

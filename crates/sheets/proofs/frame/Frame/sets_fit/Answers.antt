@@ -2,4 +2,4 @@ use Rattle.ranges.proofs.RangeLaws.{all_more}
 use Rattle.sheets.proofs.frame.Frame.sets_fit.Goals as goal
 
 pub loop-column-preserved : goal.loop-column-preserved
-loop-column-preserved c = all_more c.loop-column.column _ c.loop-column.all c.column-fits-all.result c.loop-column.invariant c.column-fits-all.ensures
+loop-column-preserved c = all_more c.loop-column.column _ c.loop-column.all c.column_fits-all.result c.loop-column.invariant c.column_fits-all.ensures

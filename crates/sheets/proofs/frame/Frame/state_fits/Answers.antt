@@ -2,5 +2,5 @@ use Rattle.std.proofs.Common.{arith}
 use Rattle.sheets.proofs.Places.{frame_few}
 use Rattle.sheets.proofs.frame.Frame.state_fits.Goals as goal
 
-pub bits-below-requires : goal.bits-below-requires
-bits-below-requires c = omega (arith, frame_few c.args.self.now)
+pub bits_below-requires : goal.bits_below-requires
+bits_below-requires c = omega (arith, frame_few c.args.self.now)

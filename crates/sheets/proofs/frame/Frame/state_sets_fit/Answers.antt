@@ -2,4 +2,4 @@ use Rattle.ranges.proofs.RangeLaws.{all_more}
 use Rattle.sheets.proofs.frame.Frame.state_sets_fit.Goals as goal
 
 pub loop-reading-preserved : goal.loop-reading-preserved
-loop-reading-preserved c = all_more c.loop-reading.reading _ c.loop-reading.all c.set-fits-all.result c.loop-reading.invariant c.set-fits-all.ensures
+loop-reading-preserved c = all_more c.loop-reading.reading _ c.loop-reading.all c.set_fits-all.result c.loop-reading.invariant c.set_fits-all.ensures

@@ -2,4 +2,4 @@ use Rattle.ranges.proofs.RangeLaws.{all_more}
 use Rattle.sheets.proofs.frame.Frame.states_fit.Goals as goal
 
 pub loop-state-preserved : goal.loop-state-preserved
-loop-state-preserved c = all_more c.loop-state.state _ c.loop-state.all c.state-fits-all.result c.loop-state.invariant c.state-fits-all.ensures
+loop-state-preserved c = all_more c.loop-state.state _ c.loop-state.all c.state_fits-all.result c.loop-state.invariant c.state_fits-all.ensures

@@ -4,9 +4,9 @@ use Rattle.sheets.specs.declared.header.Header.{Header}
 use Rattle.sheets.proofs.Places.{frame_step}
 use Rattle.sheets.proofs.frame.Frame.step_word.Goals as goal
 
-pub word-at-requires : goal.word-at-requires
-word-at-requires c = omega (arith, frame_step c.args.self.now c.args.state c.args.reading c.args.command c.requires.state c.requires.reading c.requires.command)
+pub word_at-requires : goal.word_at-requires
+word_at-requires c = omega (arith, frame_step c.args.self.now c.args.state c.args.reading c.args.command c.requires.state c.requires.reading c.requires.command)
 
 pub returns : goal.returns
 unfolding step_word
-returns c = c.word-at.ensures ∙ ap (λ (s : Header). word c.args.self.now.bytes.now (s.steps_at + 2 * ((c.args.state * s.readings + c.args.reading) * s.commands + c.args.command))) c.args.self.now.told
+returns c = c.word_at.ensures ∙ ap (λ (s : Header). word c.args.self.now.bytes.now (s.steps_at + 2 * ((c.args.state * s.readings + c.args.reading) * s.commands + c.args.command))) c.args.self.now.told
