@@ -107,7 +107,7 @@ def main():
         # a name in guillemets that needs none any more loses them
         new = re.sub(r"«([^»]*)»", lambda m: names.get(m[1], m[1] if re.fullmatch(r"\w+", m[1]) and m[1] not in RESERVED else m[0]), text)
         # a name the toolchain made, as behind `goal.`, is left
-        new = re.sub(r"(?<!goal\.)" + WORD.pattern, lambda m: names.get(m[0], m[0]), new)
+        new = re.sub(r"(?<!goal\.)(?<!\bc\.)(?<!\bw\.)" + WORD.pattern, lambda m: names.get(m[0], m[0]), new)
         if new != text:
             changed += 1
             with open(path, "w", encoding="utf-8") as f:

@@ -33,6 +33,6 @@ loop-y-preserved c =
     let w : 2 ^ t.command_bits ≤ 2 ^ 3 = pow_mono t.narrow_commands in
     let h : y < 8 = omega (arith, c.commands-y-end.ensures) in
     elim c.if-permits.branch [
-      | then-permits w ↦ w.byte_is ∙ omega (arith, one_shl y 8 h, c.loop-y.invariant, bits_true y f (sym c.permits.ensures ∙ w.if-permits.true))
-      | else-permits w ↦ w.byte_is ∙ c.loop-y.invariant ∙ sym (bits_false y f (sym c.permits.ensures ∙ w.if-permits.false))
+      | then-permits w ↦ w.byte-is ∙ omega (arith, one_shl y 8 h, c.loop-y.invariant, bits_true y f (sym c.permits.ensures ∙ w.if-permits.true))
+      | else-permits w ↦ w.byte-is ∙ c.loop-y.invariant ∙ sym (bits_false y f (sym c.permits.ensures ∙ w.if-permits.false))
     ]

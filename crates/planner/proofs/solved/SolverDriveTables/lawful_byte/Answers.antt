@@ -38,8 +38,8 @@ loop-reading-preserved c =
     let f = lawful (solver_arena c.args.self.now) c.args.state in
     let h : x < 8 = place c.args.self.now _ x (readings_are c.args.self.now _ _ c.readings-reading-end.ensures c.arena.ensures) c.loop-reading-test.true in
     elim c.if-is-lawful.branch [
-      | then-is-lawful w ↦ w.byte_is ∙ omega (arith, one_shl x 8 h, c.loop-reading.invariant, bits_true x f (sym c.is-lawful.ensures ∙ w.if-is-lawful.true))
-      | else-is-lawful w ↦ w.byte_is ∙ c.loop-reading.invariant ∙ sym (bits_false x f (sym c.is-lawful.ensures ∙ w.if-is-lawful.false))
+      | then-is-lawful w ↦ w.byte-is ∙ omega (arith, one_shl x 8 h, c.loop-reading.invariant, bits_true x f (sym c.is-lawful.ensures ∙ w.if-is-lawful.true))
+      | else-is-lawful w ↦ w.byte-is ∙ c.loop-reading.invariant ∙ sym (bits_false x f (sym c.is-lawful.ensures ∙ w.if-is-lawful.false))
     ]
 
 pub returns : goal.returns
