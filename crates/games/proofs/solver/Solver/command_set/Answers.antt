@@ -13,11 +13,11 @@ place c =
     let w : 2 ^ t.command_bits ≤ 2 ^ 3 = pow_mono t.narrow_commands in
     omega (arith, c.commands-y-end.ensures)
 
-pub overflow-shl-byte : goal.overflow-shl-byte
-overflow-shl-byte c = place c
+pub overflow_shl-byte : goal.overflow_shl-byte
+overflow_shl-byte c = place c
 
-pub overflow-add-byte : goal.overflow-add-byte
-overflow-add-byte c =
+pub overflow_add-byte : goal.overflow_add-byte
+overflow_add-byte c =
     let y = c.loop-y.y in
     let b = bits_below y (permits_in (solver_arena c.args.self.now) c.args.column c.args.q c.args.x) in
     let h : y < 8 = place c in
@@ -33,6 +33,6 @@ loop-y-preserved c =
     let w : 2 ^ t.command_bits ≤ 2 ^ 3 = pow_mono t.narrow_commands in
     let h : y < 8 = omega (arith, c.commands-y-end.ensures) in
     elim c.if-permits.branch [
-      | then-permits w ↦ w.byte_is ∙ omega (arith, one_shl y 8 h, c.loop-y.invariant, bits_true y f (sym c.permits.ensures ∙ w.if-permits.true))
-      | else-permits w ↦ w.byte_is ∙ c.loop-y.invariant ∙ sym (bits_false y f (sym c.permits.ensures ∙ w.if-permits.false))
+      | then-permits w ↦ w.byte-is ∙ omega (arith, one_shl y 8 h, c.loop-y.invariant, bits_true y f (sym c.permits.ensures ∙ w.if-permits.true))
+      | else-permits w ↦ w.byte-is ∙ c.loop-y.invariant ∙ sym (bits_false y f (sym c.permits.ensures ∙ w.if-permits.false))
     ]
