@@ -13,11 +13,11 @@ place c =
     let w : 2 ^ t.command_bits ≤ 2 ^ 3 = pow_mono t.narrow_commands in
     omega (arith, c.commands-y-end.ensures)
 
-pub overflow-shl-byte : goal.overflow-shl-byte
-overflow-shl-byte c = place c
+pub overflow_shl-byte : goal.overflow_shl-byte
+overflow_shl-byte c = place c
 
-pub overflow-add-byte : goal.overflow-add-byte
-overflow-add-byte c =
+pub overflow_add-byte : goal.overflow_add-byte
+overflow_add-byte c =
     let y = c.loop-y.y in
     let b = bits_below y (permits_in (solver_arena c.args.self.now) c.args.column c.args.q c.args.x) in
     let h : y < 8 = place c in

@@ -4,4 +4,4 @@ use Rattle.games.proofs.solver.Solver.holds_off.Goals as goal
 
 pub returns : goal.returns
 returns c =
-    ap₂ ◌&&◌ c.is-lawful.ensures c.all-enter.ensures ∙ off_asked c.args.self.now c.args.column c.args.q c.args.x c.requires
+    ap₂ ◌&&◌ c.is_lawful.ensures c.all_enter.ensures ∙ off_asked c.args.self.now c.args.column c.args.q c.args.x c.requires

@@ -5,4 +5,4 @@ use Rattle.games.proofs.solver.Solver.is_fenced.Goals as goal
 pub returns : goal.returns
 returns c =
     c.has.ensures
-    ∙ ap (λ (F : ℕ → Bool). F c.args.q) (solver_fence c.args.self.now c.as-slice.result.now c.as-slice-2.result.now c.as-slice.ensures.value c.as-slice-2.ensures.value)
+    ∙ ap (λ (F : ℕ → Bool). F c.args.q) (solver_fence c.args.self.now c.as_slice.result.now c.as_slice-2.result.now c.as_slice.ensures.value c.as_slice-2.ensures.value)

@@ -7,5 +7,5 @@ use Rattle.games.proofs.solver.Solver.is_lawful.Goals as goal
 pub returns : goal.returns
 returns c =
     let s = c.args.self.now in
-    c.is-lawful.ensures
-    ∙ ap (λ (U : ℕ → Bool). lawful_by (solver_arena s) U c.args.q c.args.x) (solver_unbroken s c.as-slice.result.now c.as-slice.ensures.value)
+    c.is_lawful.ensures
+    ∙ ap (λ (U : ℕ → Bool). lawful_by (solver_arena s) U c.args.q c.args.x) (solver_unbroken s c.as_slice.result.now c.as_slice.ensures.value)

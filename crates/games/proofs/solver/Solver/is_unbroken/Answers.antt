@@ -4,4 +4,4 @@ use Rattle.games.proofs.solver.Solver.is_unbroken.Goals as goal
 
 pub returns : goal.returns
 returns c =
-    c.has.ensures ∙ ap (λ (U : ℕ → Bool). U c.args.q) (solver_unbroken c.args.self.now c.as-slice.result.now c.as-slice.ensures.value)
+    c.has.ensures ∙ ap (λ (U : ℕ → Bool). U c.args.q) (solver_unbroken c.args.self.now c.as_slice.result.now c.as_slice.ensures.value)

@@ -14,4 +14,4 @@ returns-then-q-self c =
     sym (rank_in_at s c.args.column c.args.q c.if-column-self.false ∙ rank_outside (solver_arena s) (solver_lawful s) c.args.column c.args.q c.if-q-self.true)
 
 pub returns : goal.returns
-returns c = c.stored-rank.ensures ∙ stored_is c.args.self.now c.args.column c.args.q c.if-column-self.false c.if-q-self.false
+returns c = c.stored_rank.ensures ∙ stored_is c.args.self.now c.args.column c.args.q c.if-column-self.false c.if-q-self.false

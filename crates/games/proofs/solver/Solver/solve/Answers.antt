@@ -31,9 +31,9 @@ returns g c =
     let A = arena_of g.P.Automaton g.P.Arena arena in
     let few : leb A.n 256 ≡ true = le-leb A.n 256 (omega (arith, c.count.ensures)) in
     record {
-      answer = ap {B = Result Verdict GameFault} Ok (c.verdict.ensures ∙ ap verdict c.take-over.ensures) ∙ sym (cond-true (leb A.n 256) (Ok (verdict A)) (Err TooManyStates) few);
-      holds = c.take-over.ensures ∙ sym (cond-true (leb A.n 256) A _ few);
+      answer = ap {B = Result Verdict GameFault} Ok (c.verdict.ensures ∙ ap verdict c.take_over.ensures) ∙ sym (cond-true (leb A.n 256) (Ok (verdict A)) (Err TooManyStates) few);
+      holds = c.take_over.ensures ∙ sym (cond-true (leb A.n 256) A _ few);
       refused = λ many. absurd (omega (arith, c.count.ensures));
-      meant = λ _. subst Meant c.take-over.ensures (meant (solver_arena c.take-over.new.self) (solver_lawful c.take-over.new.self));
+      meant = λ _. subst Meant c.take_over.ensures (meant (solver_arena c.take_over.new.self) (solver_lawful c.take_over.new.self));
       settled = regions_settle A (g.met.P.Automaton.enters arena);
     }

@@ -27,7 +27,7 @@ returns g c =
       right_state_outside = h.right_state_outside arena;
     }) _ _ _
     (record {
-      duty_at = λ q l. ap (λ (xs : List Bool). get_or xs q false) (with_items_is t.duty c.copy-duty.new.marks (omega arith)) ∙ c.copy-duty.ensures q l;
-      marks_at = λ i l. ap (λ (xs : List Bool). get_or xs i false) (with_items_is t.marks c.copy-rights.new.marks (omega arith)) ∙ c.copy-rights.ensures i l;
-      steps_at = λ i l. ap (λ (xs : List (Option ℕ)). get_or xs i None) (with_items_is t.steps c.copy-steps.new.steps (omega arith)) ∙ c.copy-steps.ensures i l;
-    }) _ _ _ _ _ c.reading-bits-self.ensures c.command-bits-self.ensures c.count-self.ensures c.start-self.ensures c.rights-self.ensures
+      duty_at = λ q l. ap (λ (xs : List Bool). get_or xs q false) (with_items_is t.duty c.copy_duty.new.marks (omega arith)) ∙ c.copy_duty.ensures q l;
+      marks_at = λ i l. ap (λ (xs : List Bool). get_or xs i false) (with_items_is t.marks c.copy_rights.new.marks (omega arith)) ∙ c.copy_rights.ensures i l;
+      steps_at = λ i l. ap (λ (xs : List (Option ℕ)). get_or xs i None) (with_items_is t.steps c.copy_steps.new.steps (omega arith)) ∙ c.copy_steps.ensures i l;
+    }) _ _ _ _ _ c.reading_bits-self.ensures c.command_bits-self.ensures c.count-self.ensures c.start-self.ensures c.rights-self.ensures
