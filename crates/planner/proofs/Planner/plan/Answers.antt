@@ -35,13 +35,13 @@ lawful g arena few =
       right_state_outside = h.right_state_outside arena;
     }
 
-pub returns-then-buffer-drive-sheet-length : goal.returns-then-buffer-drive-sheet-length
-returns-then-buffer-drive-sheet-length g c =
+pub returns-then-buffer-drive_sheet_length : goal.returns-then-buffer-drive_sheet_length
+returns-then-buffer-drive_sheet_length g c =
     let arena = c.args.arena.now in
     let A = arena_of g.P.Automaton g.P.Arena arena in
     let old = c.args.buffer.now in
     let few : A.n ≤ 256 = omega (arith, c.count.ensures) in
-    let short : length old < sheet_length (arena_tables A) = omega (arith, c.drive-sheet-length.ensures) in
+    let short : length old < sheet_length (arena_tables A) = omega (arith, c.drive_sheet_length.ensures) in
     let a = sym (short_answer A old few short) in
     let b = sym (short_buffer A old short) in
     record {
@@ -56,28 +56,28 @@ pub write-requires : goal.write-requires
 write-requires g c =
     let A = arena_of g.P.Automaton g.P.Arena c.args.arena.now in
     let few : A.n ≤ 256 = omega (arith, c.count.ensures) in
-    solved_verdict A few c.in-ok-verdict.verdict c.in-ok-verdict.ensures.answer
+    solved_verdict A few c.in_ok-verdict.verdict c.in_ok-verdict.ensures.answer
     ∙ ap verdict (sym (solved_arena A few (solver_arena c.solve.new.self) _ c.solve.ensures.holds))
 
-pub returns-in-err-write : goal.returns-in-err-write
-returns-in-err-write g c =
+pub returns-in_err-write : goal.returns-in_err-write
+returns-in_err-write g c =
     let A = arena_of g.P.Automaton g.P.Arena c.args.arena.now in
     let old = c.args.buffer.now in
     let few : A.n ≤ 256 = omega (arith, c.count.ensures) in
-    let room : sheet_length (arena_tables A) ≤ length old = omega (arith, c.drive-sheet-length.ensures) in
+    let room : sheet_length (arena_tables A) ≤ length old = omega (arith, c.drive_sheet_length.ensures) in
     let held = solved_arena A few (solver_arena c.solve.new.self) _ c.solve.ensures.holds in
-    absurd (write_takes A (solver_arena c.solve.new.self) held old few room c.in-ok-verdict.verdict _ c.in-err-write.ensures.answer)
+    absurd (write_takes A (solver_arena c.solve.new.self) held old few room c.in_ok-verdict.verdict _ c.in_err-write.ensures.answer)
 
 pub returns : goal.returns
 returns g c =
     let arena = c.args.arena.now in
     let A = arena_of g.P.Automaton g.P.Arena arena in
     let old = c.args.buffer.now in
-    let v = c.in-ok-verdict.verdict in
+    let v = c.in_ok-verdict.verdict in
     let few : A.n ≤ 256 = omega (arith, c.count.ensures) in
-    let room : sheet_length (arena_tables A) ≤ length old = omega (arith, c.drive-sheet-length.ensures) in
+    let room : sheet_length (arena_tables A) ≤ length old = omega (arith, c.drive_sheet_length.ensures) in
     let held = solved_arena A few (solver_arena c.solve.new.self) _ c.solve.ensures.holds in
-    let is : v ≡ verdict A = solved_verdict A few v c.in-ok-verdict.ensures.answer in
+    let is : v ≡ verdict A = solved_verdict A few v c.in_ok-verdict.ensures.answer in
     let a : Ok v ≡ planned_answer A (length old) = ap {B = Result Verdict PlanFault} Ok is ∙ sym (roomy_answer A old few room) in
     let b = write_leaves A (solver_arena c.solve.new.self) held old few room v c.write.new.buffer is c.write.ensures.buffer in
     record {

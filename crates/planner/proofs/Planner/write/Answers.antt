@@ -9,6 +9,6 @@ returns-in-Unplayable c =
     let old = c.args.buffer.now in
     let e = lost_sheet (planner_arena c.args.self.now) c.args.verdict _ c.in-Unplayable.is c.requires in
     record {
-      answer = c.write-ground-sheet.ensures.answer ∙ ap (λ (bs : List ℕ). written_answer bs old) e;
-      buffer = c.write-ground-sheet.ensures.buffer ∙ ap (λ (bs : List ℕ). written_buffer bs old) e;
+      answer = c.write_ground_sheet.ensures.answer ∙ ap (λ (bs : List ℕ). written_answer bs old) e;
+      buffer = c.write_ground_sheet.ensures.buffer ∙ ap (λ (bs : List ℕ). written_buffer bs old) e;
     }

@@ -3,8 +3,8 @@ use Rattle.sheets.specs.Encoding.{rank_cell}
 use Rattle.sheets.proofs.Cells.{in_two}
 use Rattle.planner.proofs.drive_sheet.rank_cell.Goals as goal
 
-pub overflow-cast-j : goal.overflow-cast-j
-overflow-cast-j g c =
+pub overflow_cast-j : goal.overflow_cast-j
+overflow_cast-j g c =
     let T = g.T.DriveTables.tables c.args.tables.now in
     let I = g.met.T.DriveTables.in_range c.args.tables.now in
     let z = in_two (T.k + 1) T.n c.args.j I.some_state c.requires in

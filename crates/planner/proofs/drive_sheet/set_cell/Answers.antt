@@ -4,8 +4,8 @@ use Rattle.sheets.specs.Encoding.{set_cell}
 use Rattle.sheets.proofs.Cells.{in_three}
 use Rattle.planner.proofs.drive_sheet.set_cell.Goals as goal
 
-pub overflow-cast-row : goal.overflow-cast-row
-overflow-cast-row g c =
+pub overflow_cast-row : goal.overflow_cast-row
+overflow_cast-row g c =
     let T = g.T.DriveTables.tables c.args.tables.now in
     let I = g.met.T.DriveTables.in_range c.args.tables.now in
     let z = in_three (T.k + 1) T.n (2 ^ T.a) c.args.j I.some_state (pow_pos T.a) c.requires in

@@ -4,8 +4,8 @@ use Rattle.sheets.specs.Encoding.{step_cell, field_of}
 use Rattle.sheets.proofs.Cells.{in_three}
 use Rattle.planner.proofs.drive_sheet.step_cell.Goals as goal
 
-pub overflow-cast-row : goal.overflow-cast-row
-overflow-cast-row g c =
+pub overflow_cast-row : goal.overflow_cast-row
+overflow_cast-row g c =
     let T = g.T.DriveTables.tables c.args.tables.now in
     let I = g.met.T.DriveTables.in_range c.args.tables.now in
     let z = in_three T.n (2 ^ T.a) (2 ^ T.b) c.args.j (pow_pos T.a) (pow_pos T.b) c.requires in

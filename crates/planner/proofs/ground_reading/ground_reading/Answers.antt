@@ -6,5 +6,5 @@ use Rattle.planner.proofs.ground_reading.ground_reading.Goals as goal
 pub bounds-sheet-column : goal.bounds-sheet-column
 bounds-sheet-column c =
     let bs = c.args.sheet.now in
-    let q : c.args.state < count bs = omega (arith, c.word-at-count.ensures) in
-    simp c.word-at-count.ensures (ground_place bs (sym c.if-not-is-whole.ensures) c.args.column c.args.state c.if-column-sheet.false q)
+    let q : c.args.state < count bs = omega (arith, c.word_at-count.ensures) in
+    simp c.word_at-count.ensures (ground_place bs (sym c.if-not-is_whole.ensures) c.args.column c.args.state c.if-column-sheet.false q)

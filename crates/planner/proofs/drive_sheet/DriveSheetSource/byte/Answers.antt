@@ -5,7 +5,7 @@ use Rattle.planner.proofs.drive_sheet.DriveSheetSource.byte.Goals as goal
 
 pub returns-then-i-lt20 : goal.returns-then-i-lt20
 returns-then-i-lt20 g c =
-    ap (λ (l : List ℕ). get_or l c.args.i 0) c.drive-header.ensures ∙ sym (byte_head (g.T.DriveTables.tables c.args.self.now.tables.now) c.args.i (omega arith))
+    ap (λ (l : List ℕ). get_or l c.args.i 0) c.drive_header.ensures ∙ sym (byte_head (g.T.DriveTables.tables c.args.self.now.tables.now) c.args.i (omega arith))
 
 pub returns-then-i-at : goal.returns-then-i-at
 returns-then-i-at g c =

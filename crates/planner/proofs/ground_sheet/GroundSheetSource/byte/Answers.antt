@@ -7,8 +7,8 @@ pub returns-then-i-lt16 : goal.returns-then-i-lt16
 returns-then-i-lt16 g c =
     ap (λ (l : List ℕ). get_or l c.args.i 0) c.ground_header.ensures ∙ sym (byte_head (g.T.GroundColumns.columns c.args.self.now.columns.now) c.args.i (omega arith))
 
-pub overflow-cast-j : goal.overflow-cast-j
-overflow-cast-j g c =
+pub overflow_cast-j : goal.overflow_cast-j
+overflow_cast-j g c =
     let G = g.T.GroundColumns.columns c.args.self.now.columns.now in
     let I = g.met.T.GroundColumns.in_range c.args.self.now.columns.now in
     let p : c.args.i - 16 < (G.k + 1) * G.n = omega (arith, c.requires) in

@@ -8,7 +8,7 @@ use Rattle.games.specs.Regions.{lawful}
 use Rattle.games.specs.Solved.{solver_arena}
 use Rattle.games.proofs.SolverLaws.{solver_lawful}
 use Rattle.planner.proofs.solved.SolverDriveTables.lawful_byte.Goals as goal
-use Rattle.planner.proofs.solved.SolverDriveTables.lawful_byte.Goals.{then-is-lawful, else-is-lawful}
+use Rattle.planner.proofs.solved.SolverDriveTables.lawful_byte.Goals.{then-is_lawful, else-is_lawful}
 
 -- how many readings there are
 readings_are : (s : Solver) (A : Arena) (r : ℕ) → r ≡ 2 ^ A.a → A ≡ solver_arena s → r ≡ 2 ^ (solver_arena s).a
@@ -20,14 +20,14 @@ place s r i e l =
     let w : 2 ^ (solver_arena s).a ≤ 2 ^ 3 = pow_mono (solver_lawful s).few_reading_bits in
     omega arith
 
-pub overflow-shl-byte : goal.overflow-shl-byte
-overflow-shl-byte c = place c.args.self.now _ c.loop-reading.reading (readings_are c.args.self.now _ _ c.readings-reading-end.ensures c.arena.ensures) c.loop-reading-test.true
+pub overflow_shl-byte : goal.overflow_shl-byte
+overflow_shl-byte c = place c.args.self.now _ c.loop-reading.reading (readings_are c.args.self.now _ _ c.readings-reading-end.ensures c.arena.ensures) c.loop-reading-test.true
 
-pub overflow-add-byte : goal.overflow-add-byte
-overflow-add-byte c =
+pub overflow_add-byte : goal.overflow_add-byte
+overflow_add-byte c =
     let x = c.loop-reading.reading in
     let b = bits_below x (lawful (solver_arena c.args.self.now) c.args.state) in
-    let h : x < 8 = overflow-shl-byte c in
+    let h : x < 8 = overflow_shl-byte c in
     let k : x ≤ 7 = omega arith in
     let p : 2 ^ x ≤ 2 ^ 7 = pow_mono k in
     omega (arith, one_shl x 8 h, c.loop-reading.invariant)
@@ -37,9 +37,9 @@ loop-reading-preserved c =
     let x = c.loop-reading.reading in
     let f = lawful (solver_arena c.args.self.now) c.args.state in
     let h : x < 8 = place c.args.self.now _ x (readings_are c.args.self.now _ _ c.readings-reading-end.ensures c.arena.ensures) c.loop-reading-test.true in
-    elim c.if-is-lawful.branch [
-      | then-is-lawful w ↦ w.byte-is ∙ omega (arith, one_shl x 8 h, c.loop-reading.invariant, bits_true x f (sym c.is-lawful.ensures ∙ w.if-is-lawful.true))
-      | else-is-lawful w ↦ w.byte-is ∙ c.loop-reading.invariant ∙ sym (bits_false x f (sym c.is-lawful.ensures ∙ w.if-is-lawful.false))
+    elim c.if-is_lawful.branch [
+      | then-is_lawful w ↦ w.byte-is ∙ omega (arith, one_shl x 8 h, c.loop-reading.invariant, bits_true x f (sym c.is_lawful.ensures ∙ w.if-is_lawful.true))
+      | else-is_lawful w ↦ w.byte-is ∙ c.loop-reading.invariant ∙ sym (bits_false x f (sym c.is_lawful.ensures ∙ w.if-is_lawful.false))
     ]
 
 pub returns : goal.returns
