@@ -34,12 +34,12 @@ lawful g arena few =
       right_state_outside = h.right_state_outside arena;
     }
 
-pub returns-in-err-verdict : goal.returns-in-err-verdict
-returns-in-err-verdict g c =
+pub returns-in_err-verdict : goal.returns-in_err-verdict
+returns-in_err-verdict g c =
     let arena = c.args.arena.now in
     let A = arena_of g.P.Automaton g.P.Arena arena in
-    let p = err_from_is_err_and c.from-residual.result c.from-residual.ensures.1 in
-    let same : c.plan.result ≡ Err p.0 = c.in-err-verdict.was ∙ ap {B = Result Verdict PlanFault} Err (sym p.2) in
+    let p = err_from_is_err_and c.from_residual.result c.from_residual.ensures.1 in
+    let same : c.plan.result ≡ Err p.0 = c.in_err-verdict.was ∙ ap {B = Result Verdict PlanFault} Err (sym p.2) in
     record {
       answer = ap verdict_of p.1 ∙ sym same ∙ c.plan.ensures.answer;
       buffer = c.plan.ensures.buffer;
@@ -52,9 +52,9 @@ pub returns-in-Planned : goal.returns-in-Planned
 returns-in-Planned g c =
     let arena = c.args.arena.now in
     let A = arena_of g.P.Automaton g.P.Arena arena in
-    let v = c.in-ok-verdict.verdict in
+    let v = c.in_ok-verdict.verdict in
     let bs = c.plan.new.buffer in
-    let was = c.in-ok-verdict.was in
+    let was = c.in_ok-verdict.was in
     let is : v ≡ Planned c.in-Planned.field-0 = c.in-Planned.is in
     let known = planned_ok A (length c.args.buffer.now) v (sym c.plan.ensures.answer ∙ was) in
     let L = lawful g arena known.0 in
@@ -64,14 +64,14 @@ returns-in-Planned g c =
       buffer = c.plan.ensures.buffer;
       meant = c.plan.ensures.meant;
       runs = λ few. drives A (lawful g arena few);
-      assured = subst (ByVerdict A bs c.args.entries.now c.drive-on-drive.new.entries c.drive-on-drive.result) (sym is) (c.drive-on-drive.ensures A L O c.in-Planned.field-0 (known.1 ∙ is));
+      assured = subst (ByVerdict A bs c.args.entries.now c.drive_on-drive.new.entries c.drive_on-drive.result) (sym is) (c.drive_on-drive.ensures A L O c.in-Planned.field-0 (known.1 ∙ is));
     }
 
 pub returns-in-Groundless : goal.returns-in-Groundless
 returns-in-Groundless g c =
     let arena = c.args.arena.now in
     let A = arena_of g.P.Automaton g.P.Arena arena in
-    let was = c.in-ok-verdict.was in
+    let was = c.in_ok-verdict.was in
     record {
       answer = sym was ∙ c.plan.ensures.answer;
       buffer = c.plan.ensures.buffer;
@@ -84,9 +84,9 @@ pub returns-in-Unplayable : goal.returns-in-Unplayable
 returns-in-Unplayable g c =
     let arena = c.args.arena.now in
     let A = arena_of g.P.Automaton g.P.Arena arena in
-    let v = c.in-ok-verdict.verdict in
+    let v = c.in_ok-verdict.verdict in
     let bs = c.plan.new.buffer in
-    let was = c.in-ok-verdict.was in
+    let was = c.in_ok-verdict.was in
     let is : v ≡ Unplayable c.in-Unplayable.field-0 = c.in-Unplayable.is in
     let known = planned_ok A (length c.args.buffer.now) v (sym c.plan.ensures.answer ∙ was) in
     let L = lawful g arena known.0 in
