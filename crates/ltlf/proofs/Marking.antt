@@ -11,7 +11,7 @@ use Rattle.ltlf.specs.declared.formula.Binary.{Binary}
 use Rattle.ltlf.specs.declared.formula.Binary.TheVariants.{And, Or, Until}
 use Rattle.automata.specs.declared.word.Round.{Round}
 use Rattle.ltlf.proofs.Truths.{nope, and_left, and_right, both, or_right}
-use Rattle.ltlf.proofs.Sides.{codes_some, codes_two, low, high, together}
+use Rattle.ltlf.specs.CodeLaws.{codes_some, codes_two, stepped_two, stepped_lt, low, high, together}
 
 -- ---- one round
 
@@ -157,42 +157,6 @@ module _ (a : ℕ) (p : Ltl) where
 digit_later : (a j c : ℕ) (w : List Round) → later a (digit j) c w ≡ c
 digit_later a j c [] = refl
 digit_later a j c (r ∷ w) = digit_later a j c w
-
--- ---- the codes stay below their number
-
-three : (c : ℕ) (b : Bool) (u v : ℕ) → c < 3 → u < 3 → v < 3 → while_open c (cond b u v) < 3
-three c b u v h k l = elim (eqb c 0) as (λ e. cond e (cond b u v) c < 3) [ true ↦ elim b as (λ b. cond b u v < 3) [ true ↦ k | false ↦ l ] | false ↦ h ]
-
-stepped_two : (a : ℕ) (first : Bool) (r : Round) (o : Binary) (p q : Ltl) (c : ℕ) → temporal2 o ≡ false →
-    stepped a first r (two o p q) c ≡ stepped a first r p (c % codes p) + codes p * stepped a first r q (c / codes p)
-stepped_two a first r o p q c e =
-    ap (λ b. cond b (until_code (shows a r p) (shows a r q) c) (stepped a first r p (c % codes p) + codes p * stepped a first r q (c / codes p))) e
-
-sides_lt : (a : ℕ) (first : Bool) (r : Round) (o : Binary) (p q : Ltl) (c : ℕ) → temporal2 o ≡ false →
-    ((c : ℕ) → c < codes p → stepped a first r p c < codes p) → ((c : ℕ) → c < codes q → stepped a first r q c < codes q) →
-    c < codes (two o p q) → stepped a first r (two o p q) c < codes (two o p q)
-sides_lt a first r o p q c e left right h =
-    subst (λ n. n < codes (two o p q)) (sym (stepped_two a first r o p q c e))
-    (together _ _ (codes p) (codes q) _ (codes_two o p q e)
-    (left (c % codes p) (low c (codes p) (codes_some p)))
-    (right (c / codes p) (high c (codes p) (codes q) _ (codes_two o p q e) (codes_some p) h)))
-
-pub stepped_lt : (a : ℕ) (first : Bool) (r : Round) (p : Ltl) (c : ℕ) → c < codes p → stepped a first r p c < codes p
-stepped_lt a first r (truth v) c h = omega arith
-stepped_lt a first r (digit j) c h =
-    elim first as (λ f. cond f (cond (digit_bit a r j) 1 2) c < 3)
-    [ true ↦ elim (digit_bit a r j) as (λ b. cond b 1 2 < 3) [ true ↦ omega arith | false ↦ omega arith ] | false ↦ h ]
-stepped_lt a first r (one Not p) c h = stepped_lt a first r p c h
-stepped_lt a first r (one Next p) c h =
-    elim first as (λ f. cond f 0 (while_open c (cond (shows a r p) 1 2)) < 3)
-    [ true ↦ omega arith | false ↦ three c (shows a r p) 1 2 h (omega arith) (omega arith) ]
-stepped_lt a first r (one Eventually p) c h = three c (shows a r p) 1 0 h (omega arith) (omega arith)
-stepped_lt a first r (one Always p) c h = three c (shows a r p) 0 2 h (omega arith) (omega arith)
-stepped_lt a first r (two And p q) c h = sides_lt a first r And p q c refl (λ c h. stepped_lt a first r p c h) (λ c h. stepped_lt a first r q c h) h
-stepped_lt a first r (two Or p q) c h = sides_lt a first r Or p q c refl (λ c h. stepped_lt a first r p c h) (λ c h. stepped_lt a first r q c h) h
-stepped_lt a first r (two Until p q) c h =
-    three c (shows a r q) 1 (cond (shows a r p) 0 2) h (omega arith)
-    (elim (shows a r p) as (λ b. cond b 0 2 < 3) [ true ↦ omega arith | false ↦ omega arith ])
 
 pub later_lt : (a : ℕ) (p : Ltl) (c : ℕ) (w : List Round) → c < codes p → later a p c w < codes p
 later_lt a p c [] h = h

@@ -10,24 +10,10 @@ use Rattle.ltlf.specs.declared.formula.Unary.TheVariants.{Not, Next, Eventually,
 use Rattle.ltlf.specs.declared.formula.Binary.TheVariants.{And, Or, Until}
 use Rattle.automata.specs.declared.word.Round.{Round}
 use Rattle.ltlf.proofs.Truths.{nope, and_left, and_right, both}
-use Rattle.ltlf.proofs.Sides.{codes_some}
-use Rattle.ltlf.proofs.Marking.{stepped_lt, later_lt, two_codes, not_later, after}
+use Rattle.ltlf.specs.CodeLaws.{codes_some, stepped_lt}
+use Rattle.ltlf.proofs.Marking.{later_lt, two_codes, not_later, after}
 
 module _ (a b : ℕ) (p : Ltl) where
-  next_lt : (q x y : ℕ) → q < count p → 1 + stepped a (eqb q 0) (record { reading = x; command = y }) p (q - 1) < count p
-  next_lt q x y h =
-      let s : 1 ≤ codes p = codes_some p in
-      let m : stepped a (eqb q 0) (record { reading = x; command = y }) p (q - 1) < codes p = stepped_lt a (eqb q 0) (record { reading = x; command = y }) p (q - 1) (omega arith) in
-      omega arith
-
-  pub step_inside : (q x y : ℕ) → Inside (count p) (rule_step a b p q x y)
-  step_inside q x y = go (ltb q (count p)) refl (ltb x (2 ^ a) && ltb y (2 ^ b))
-    where
-      go : (t : Bool) → ltb q (count p) ≡ t → (u : Bool) → Inside (count p) (cond (t && u) (Some (1 + stepped a (eqb q 0) (record { reading = x; command = y }) p (q - 1))) None)
-      go true e true = next_lt q x y (grind (arith, nat_tests))
-      go true e false = tt
-      go false e u = tt
-
   abbrev walk : ℕ → List Round → Option ℕ
   walk = led (rule_step a b p)
 

@@ -7,5 +7,6 @@ pub mod Passing
 pub mod Laws
 pub mod Words
 pub mod Codes
+pub mod CodeLaws
 pub mod Judged
 pub mod Making

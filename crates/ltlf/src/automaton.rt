@@ -1,6 +1,7 @@
 // The automaton of a rule.
 ghost use Rattle.ltlf.specs.Formulas.{shape};
 ghost use Rattle.ltlf.specs.Codes.{count as states, rule_step, rule_marked};
+ghost use Rattle.ltlf.specs.CodeLaws.{codes_few, step_inside};
 ghost use Rattle.std.proofs.Common.{rules, arith};
 
 use crate::rule::Rule;
@@ -20,19 +21,27 @@ impl Automaton for Rule {
 
     ghost step = { λ s. rule_step s.widths.reading_bits s.widths.command_bits (shape s.formula) };
 
-    ghost narrow = { first_of (Prim.search rules, Prim.grind (arith, Self.row.coded.inj)) };
+    ghost narrow = { Prim.search rules };
 
-    ghost begins = { first_of (Prim.search rules, Prim.grind (arith, Self.row.coded.inj)) };
+    ghost sized = { λ s. (Prim.omega arith, Prim.omega (arith, codes_few (shape s.formula) s.few)) };
 
-    ghost state_outside = { first_of (Prim.search rules, Prim.grind (arith, Self.row.coded.inj)) };
+    ghost begins = { Prim.search rules };
 
-    ghost reading_outside = { first_of (Prim.search rules, Prim.grind (arith, Self.row.coded.inj)) };
+    ghost enters = { λ s q x y. step_inside s.widths.reading_bits s.widths.command_bits (shape s.formula) q x y };
 
-    ghost command_outside = { first_of (Prim.search rules, Prim.grind (arith, Self.row.coded.inj)) };
+    ghost state_outside = { Prim.search rules };
 
-    ghost mark_outside = { first_of (Prim.search rules, Prim.grind (arith, Self.row.coded.inj)) };
+    ghost reading_outside = { Prim.search rules };
 
-    ghost full_start = { first_of (Prim.search rules, Prim.grind (arith, Self.row.coded.inj)) };
+    ghost command_outside = { Prim.search rules };
+
+    ghost mark_outside = { Prim.search rules };
+
+    ghost full_start = { Prim.search rules };
+
+    ghost full_step = { λ s q x y h. absurd (Prim.omega (arith, h, codes_few (shape s.formula) s.few)) };
+
+    ghost full_mark = { λ s q h. absurd (Prim.omega (arith, h, codes_few (shape s.formula) s.few)) };
 
     fn reading_bits(&self) -> u8 {
         self.widths.reading_bits

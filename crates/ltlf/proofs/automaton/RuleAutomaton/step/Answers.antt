@@ -1,6 +1,6 @@
 use Rattle.std.proofs.Common.{arith}
 use Rattle.ltlf.specs.Formulas.{shape}
-use Rattle.ltlf.proofs.Sides.{codes_some}
+use Rattle.ltlf.specs.CodeLaws.{codes_some}
 use Rattle.ltlf.proofs.automaton.RuleAutomaton.step.Goals as goal
 use Rattle.ltlf.proofs.automaton.RuleAutomaton.step.Goals.{then-q-eq0, else-q-eq0}
 

@@ -1,32 +1,33 @@
 use Rattle.std.proofs.Common.{◌≡◌, ℕ, ◌+◌, ◌*◌, ◌/◌, ◌%◌, ◌<◌, cond, sym, ap, ◌∙◌, arith}
 use Rattle.ltlf.specs.Formulas.{Ltl, shape}
 use Rattle.ltlf.specs.Codes.{codes, shows, until_code, stepped}
-use Rattle.ltlf.proofs.Sides.{Sides, sides, fewer, low, high, together, codes_some}
+use Rattle.ltlf.specs.CodeLaws.{low, high, together, codes_some}
+use Rattle.ltlf.proofs.Sides.{Sides, sides, fewer}
 use Rattle.ltlf.proofs.formula.Formula.+step.Goals as goal
 
 pub codes-k-requires : goal.codes-k-requires
 codes-k-requires t c =
-    let s = sides c.in-Binary.is (sym c.if-is-temporal-2.ensures) c.requires.few in
-    rw c.deref-else-is-temporal-2.ensures s.left
+    let s = sides c.in-Binary.is (sym c.if-is_temporal-2.ensures) c.requires.few in
+    rw c.deref-else-is_temporal-2.ensures s.left
 
-pub nonzero-rem-c : goal.nonzero-rem-c
-nonzero-rem-c t c = omega (arith, c.codes-k.ensures, codes_some (shape c.deref-else-is-temporal-2.result.now))
+pub nonzero_rem-c : goal.nonzero_rem-c
+nonzero_rem-c t c = omega (arith, c.codes-k.ensures, codes_some (shape c.deref-else-is_temporal-2.result.now))
 
 pub step-u-requires : goal.step-u-requires
 step-u-requires t c =
     let p : Ltl = shape c.in-Binary.p.value in
-    let s = sides c.in-Binary.is (sym c.if-is-temporal-2.ensures) c.requires.few in
-    let k : c.codes-k.result ≡ codes p = c.codes-k.ensures ∙ ap (λ f. codes (shape f)) c.deref-else-is-temporal-2.ensures in
-    let d = c.deref-else-is-temporal-2-2.ensures in
+    let s = sides c.in-Binary.is (sym c.if-is_temporal-2.ensures) c.requires.few in
+    let k : c.codes-k.result ≡ codes p = c.codes-k.ensures ∙ ap (λ f. codes (shape f)) c.deref-else-is_temporal-2.ensures in
+    let d = c.deref-else-is_temporal-2-2.ensures in
     (rw d (fewer c.in-Binary.is c.decreases).0, (rw d s.left, rw (d, k) (low c.args.c (codes p) s.left_some)))
 
 pub step-v-requires : goal.step-v-requires
 step-v-requires t c =
     let p : Ltl = shape c.in-Binary.p.value in
     let q : Ltl = shape c.in-Binary.q.value in
-    let s = sides c.in-Binary.is (sym c.if-is-temporal-2.ensures) c.requires.few in
-    let k : c.codes-k.result ≡ codes p = c.codes-k.ensures ∙ ap (λ f. codes (shape f)) c.deref-else-is-temporal-2.ensures in
-    let d = c.deref-else-is-temporal-2-3.ensures in
+    let s = sides c.in-Binary.is (sym c.if-is_temporal-2.ensures) c.requires.few in
+    let k : c.codes-k.result ≡ codes p = c.codes-k.ensures ∙ ap (λ f. codes (shape f)) c.deref-else-is_temporal-2.ensures in
+    let d = c.deref-else-is_temporal-2-3.ensures in
     (rw d (fewer c.in-Binary.is c.decreases).1, (rw d s.right, rw (d, k) (high c.args.c (codes p) (codes q) _ s.whole s.left_some c.requires.within)))
 
 -- the two sides' codes together, and their bound
@@ -38,25 +39,25 @@ module _ (t : ℕ) (c : goal.After-step-v t) where
   right = shape c.in-Binary.q.value
 
   parted : Sides (shape c.args.self.now) left right
-  parted = sides c.in-Binary.is (sym c.if-is-temporal-2.ensures) c.requires.few
+  parted = sides c.in-Binary.is (sym c.if-is_temporal-2.ensures) c.requires.few
 
   many : c.codes-k.result ≡ codes left
-  many = c.codes-k.ensures ∙ ap (λ f. codes (shape f)) c.deref-else-is-temporal-2.ensures
+  many = c.codes-k.ensures ∙ ap (λ f. codes (shape f)) c.deref-else-is_temporal-2.ensures
 
   bounded : c.step-u.result + c.codes-k.result * c.step-v.result < codes (shape c.args.self.now)
   bounded =
-      let u : c.step-u.result < codes left = rw c.deref-else-is-temporal-2-2.ensures at c.step-u.ensures.bound in
-      let v : c.step-v.result < codes right = rw c.deref-else-is-temporal-2-3.ensures at c.step-v.ensures.bound in
+      let u : c.step-u.result < codes left = rw c.deref-else-is_temporal-2-2.ensures at c.step-u.ensures.bound in
+      let v : c.step-v.result < codes right = rw c.deref-else-is_temporal-2-3.ensures at c.step-v.ensures.bound in
       rw many (together _ _ _ _ _ parted.whole u v)
 
-pub overflow-mul-result : goal.overflow-mul-result
-overflow-mul-result t c = omega (arith, bounded t c, (parted t c).small)
+pub overflow_mul-result : goal.overflow_mul-result
+overflow_mul-result t c = omega (arith, bounded t c, (parted t c).small)
 
-pub overflow-add-result : goal.overflow-add-result
-overflow-add-result t c = omega (arith, bounded t c, (parted t c).small)
+pub overflow_add-result : goal.overflow_add-result
+overflow_add-result t c = omega (arith, bounded t c, (parted t c).small)
 
-pub returns-else-is-temporal-2 : goal.returns-else-is-temporal-2
-returns-else-is-temporal-2 t c =
+pub returns-else-is_temporal-2 : goal.returns-else-is_temporal-2
+returns-else-is_temporal-2 t c =
     let a : ℕ = c.args.a in
     let r = c.args.round in
     let p : Ltl = left t c in
@@ -65,7 +66,7 @@ returns-else-is-temporal-2 t c =
     let o = c.in-Binary.op in
     let e : stepped a c.args.first r (shape c.args.self.now) c.args.c ≡ stepped a c.args.first r p (c.args.c % codes p) + codes p * stepped a c.args.first r q (c.args.c / codes p) =
     ap (λ f. stepped a c.args.first r (shape f) c.args.c) c.in-Binary.is
-    ∙ ap (λ b. cond b (until_code (shows a r p) (shows a r q) c.args.c) (stepped a c.args.first r p (c.args.c % codes p) + codes p * stepped a c.args.first r q (c.args.c / codes p))) (sym c.if-is-temporal-2.ensures) in
-    let eu : c.step-u.result ≡ stepped a c.args.first r p (c.args.c % codes p) = rw (c.deref-else-is-temporal-2-2.ensures, k) at c.step-u.ensures.value in
-    let ev : c.step-v.result ≡ stepped a c.args.first r q (c.args.c / codes p) = rw (c.deref-else-is-temporal-2-3.ensures, k) at c.step-v.ensures.value in
+    ∙ ap (λ b. cond b (until_code (shows a r p) (shows a r q) c.args.c) (stepped a c.args.first r p (c.args.c % codes p) + codes p * stepped a c.args.first r q (c.args.c / codes p))) (sym c.if-is_temporal-2.ensures) in
+    let eu : c.step-u.result ≡ stepped a c.args.first r p (c.args.c % codes p) = rw (c.deref-else-is_temporal-2-2.ensures, k) at c.step-u.ensures.value in
+    let ev : c.step-v.result ≡ stepped a c.args.first r q (c.args.c / codes p) = rw (c.deref-else-is_temporal-2-3.ensures, k) at c.step-v.ensures.value in
     record { bound = bounded t c; value = cc }
