@@ -116,6 +116,6 @@ pub ground_holds : (A : Arena) → LawfulArena A → (bs : List ℕ) (right : �
 ground_holds A L bs right R M u =
     let same : (ys : List ℕ) → Below (2 ^ A.b) ys → written_ground A bs ys ≡ followed A ys = λ ys b. written_told A L bs right R ys ∙ M.read_off u ys b in
     record {
-      lawful = lawful_agree A L (followed A) (written_ground A bs) A.start (λ ys b. sym (same ys b)) (M.ground u);
+      lawful = lawful_agree A L (followed A) (written_ground A bs) A.start (λ ys b. sym (same ys b)) (M.lawful_followed u);
       unbeaten = λ p f. M.defeats u p (fulfils_agree A L p (written_ground A bs) (followed A) same f);
     }

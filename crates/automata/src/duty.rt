@@ -13,55 +13,55 @@ use crate::pairs::{pair_start, pair_step, product};
 
 #[derive(Drop)]
 pub struct WithDuty<G, D> {
-    pub ground: G,
+    pub terrain: G,
     pub duty: D,
 }
 
 impl<G: Automaton, D: Automaton> WithDuty<G, D> {
     // Pairs a ground and a duty. Over every word the pair stands at its parts' states, marked exactly
     // if the duty is, and is led to none where a part is.
-    pub fn of(ground: G, duty: D) -> WithDuty<G, D>
-        ensures made { (result.ground ≡ ground) × (result.duty ≡ duty) }
-        ensures carries { G.Automaton.n ground * D.Automaton.n duty ≤ 256 → Carries (machine_of G.Automaton ground) (machine_of D.Automaton duty) }
+    pub fn of(terrain: G, duty: D) -> WithDuty<G, D>
+        ensures made { (result.terrain ≡ terrain) × (result.duty ≡ duty) }
+        ensures carries { G.Automaton.n terrain * D.Automaton.n duty ≤ 256 → Carries (machine_of G.Automaton terrain) (machine_of D.Automaton duty) }
     {
-        WithDuty { ground, duty }
+        WithDuty { terrain, duty }
     }
 }
 
 impl<G: Automaton, D: Automaton> Automaton for WithDuty<G, D> {
-    ghost a = { λ s. (with_duty (machine_of G.Automaton s.ground) (machine_of D.Automaton s.duty)).a };
+    ghost a = { λ s. (with_duty (machine_of G.Automaton s.terrain) (machine_of D.Automaton s.duty)).a };
 
-    ghost b = { λ s. (with_duty (machine_of G.Automaton s.ground) (machine_of D.Automaton s.duty)).b };
+    ghost b = { λ s. (with_duty (machine_of G.Automaton s.terrain) (machine_of D.Automaton s.duty)).b };
 
-    ghost n = { λ s. (with_duty (machine_of G.Automaton s.ground) (machine_of D.Automaton s.duty)).n };
+    ghost n = { λ s. (with_duty (machine_of G.Automaton s.terrain) (machine_of D.Automaton s.duty)).n };
 
-    ghost start = { λ s. (with_duty (machine_of G.Automaton s.ground) (machine_of D.Automaton s.duty)).start };
+    ghost start = { λ s. (with_duty (machine_of G.Automaton s.terrain) (machine_of D.Automaton s.duty)).start };
 
-    ghost marked = { λ s. (with_duty (machine_of G.Automaton s.ground) (machine_of D.Automaton s.duty)).marked };
+    ghost marked = { λ s. (with_duty (machine_of G.Automaton s.terrain) (machine_of D.Automaton s.duty)).marked };
 
-    ghost step = { λ s. (with_duty (machine_of G.Automaton s.ground) (machine_of D.Automaton s.duty)).step };
+    ghost step = { λ s. (with_duty (machine_of G.Automaton s.terrain) (machine_of D.Automaton s.duty)).step };
 
     ghost narrow = { Prim.search rules };
 
     ghost sized = { λ s.
-        let n = G.Automaton.n s.ground in
+        let n = G.Automaton.n s.terrain in
         let m = D.Automaton.n s.duty in
-        pair_sized (nat_le (n * m) 256) n m (leb-true (n * m) 256) (G.Automaton.sized s.ground).0 (D.Automaton.sized s.duty).0 };
+        pair_sized (nat_le (n * m) 256) n m (leb-true (n * m) 256) (G.Automaton.sized s.terrain).0 (D.Automaton.sized s.duty).0 };
 
     ghost begins = { λ s.
-        let n = G.Automaton.n s.ground in
+        let n = G.Automaton.n s.terrain in
         let m = D.Automaton.n s.duty in
-        pair_begins (nat_le (n * m) 256) n m (leb-true (n * m) 256) _ _ (G.Automaton.begins s.ground) (D.Automaton.begins s.duty) };
+        pair_begins (nat_le (n * m) 256) n m (leb-true (n * m) 256) _ _ (G.Automaton.begins s.terrain) (D.Automaton.begins s.duty) };
 
     ghost enters = { λ s q x y.
-        let n = G.Automaton.n s.ground in
+        let n = G.Automaton.n s.terrain in
         let m = D.Automaton.n s.duty in
-        pair_enters (nat_le (n * m) 256) n m (leb-true (n * m) 256) _ _ (G.Automaton.enters s.ground (q / m) x y) (D.Automaton.enters s.duty (q % m) x y) };
+        pair_enters (nat_le (n * m) 256) n m (leb-true (n * m) 256) _ _ (G.Automaton.enters s.terrain (q / m) x y) (D.Automaton.enters s.duty (q % m) x y) };
 
     ghost state_outside = { λ s q x y l.
-        let n = G.Automaton.n s.ground in
+        let n = G.Automaton.n s.terrain in
         let m = D.Automaton.n s.duty in
-        pair_outside (nat_le (n * m) 256) n m (leb-true (n * m) 256) q (λ p. G.Automaton.step s.ground p x y) _ (D.Automaton.sized s.duty).0 (λ p. G.Automaton.state_outside s.ground p x y) l };
+        pair_outside (nat_le (n * m) 256) n m (leb-true (n * m) 256) q (λ p. G.Automaton.step s.terrain p x y) _ (D.Automaton.sized s.duty).0 (λ p. G.Automaton.state_outside s.terrain p x y) l };
 
     ghost reading_outside = { Prim.search rules };
 
@@ -76,34 +76,34 @@ impl<G: Automaton, D: Automaton> Automaton for WithDuty<G, D> {
     ghost full_mark = { Prim.search rules };
 
     fn reading_bits(&self) -> u8 {
-        self.ground.reading_bits()
+        self.terrain.reading_bits()
     }
 
     fn command_bits(&self) -> u8 {
-        self.ground.command_bits()
+        self.terrain.command_bits()
     }
 
     fn count(&self) -> u16 {
-        let n = product(&self.ground, &self.duty);
+        let n = product(&self.terrain, &self.duty);
         if n <= 256 { n as u16 } else { 257 }
     }
 
     fn start(&self) -> u16 {
-        if product(&self.ground, &self.duty) <= 256 {
-            pair_start(&self.ground, &self.duty)
+        if product(&self.terrain, &self.duty) <= 256 {
+            pair_start(&self.terrain, &self.duty)
         } else {
             0
         }
     }
 
     fn marked(&self, q: u16) -> bool {
-        let n = product(&self.ground, &self.duty);
+        let n = product(&self.terrain, &self.duty);
         n <= 256 && (q as u32) < n && self.duty.marked(q % self.duty.count())
     }
 
     fn step(&self, q: u16, x: u8, y: u8) -> Option<u16> {
-        if product(&self.ground, &self.duty) <= 256 {
-            pair_step(&self.ground, &self.duty, q, x, y)
+        if product(&self.terrain, &self.duty) <= 256 {
+            pair_step(&self.terrain, &self.duty, q, x, y)
         } else {
             None
         }

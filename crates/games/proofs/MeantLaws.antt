@@ -130,7 +130,7 @@ module _ (A : Arena) (L : LawfulArena A) where
     rights = λ j q l u. (ranked_open A L j q, open_ranked A L j q l u);
     unplayable = unplayable_exactly;
     planned = planned_exactly;
-    ground = λ u. let w = unplayable_start u in followed_lawful A L w.0 w.1;
+    lawful_followed = λ u. let w = unplayable_start u in followed_lawful A L w.0 w.1;
     defeats = λ u. let w = unplayable_start u in followed_beats A L w.0 w.1;
     told = told_is;
     read_off = read_off_is;

@@ -27,7 +27,7 @@ pub record Meant (A : Arena) : Type 0 where
   pub unplayable : SomeLawfulGround A → IsUnplayable A ↔ ((p : Plan) → Fulfils A p → ⊥)
   pub planned : SomeLawfulGround A → IsPlanned A ↔ ((p : Plan) × Fulfils A p)
   -- if unplayable, the followed columns are a lawful ground, against which no plan fulfils the job
-  pub ground : IsUnplayable A → LawfulGround A A.start (followed A)
+  pub lawful_followed : IsUnplayable A → LawfulGround A A.start (followed A)
   pub defeats : IsUnplayable A → (p : Plan) → FulfilsAgainst A p (followed A) → ⊥
   -- which column to follow can be read off the columns' bytes: at every unbroken state, and so
   -- for every list of commands

@@ -81,7 +81,7 @@ all_sound bs p = record {
     fits = (cond_ok (section_fits (byte bs 3) (byte bs 4) bs (offset (byte bs 3) (byte bs 4) bs i)) _ _ (in_turn_at (looked_for Forms (byte bs 3) (byte bs 4) bs) (byte bs 5 + 2) i (p.turns Forms) l)).0;
     text = in_turn_at (looked_for Texts (byte bs 3) (byte bs 4) bs) (byte bs 5 + 2) i (p.turns Texts) l;
   };
-  ground = (cond_ok (is_ground bs 8) _ _ (in_turn_at (looked_for Ground (byte bs 3) (byte bs 4) bs) (byte bs 5 + 2) 0 (p.turns Ground) (omega arith))).0;
+  ground_fits = (cond_ok (is_ground bs 8) _ _ (in_turn_at (looked_for Ground (byte bs 3) (byte bs 4) bs) (byte bs 5 + 2) 0 (p.turns Ground) (omega arith))).0;
 }
 
 -- the same, by numbers that are the head's

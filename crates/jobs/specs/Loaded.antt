@@ -36,4 +36,4 @@ pub record Sound (a b : ℕ) (bs : List ℕ) (i : ℕ) : Type 0 where
 -- sections that a job can be made of
 pub record AllSound (a b k : ℕ) (bs : List ℕ) : Type 0 where
   pub each : (i : ℕ) → i < k + 2 → Sound a b bs i
-  pub ground : is_ground bs 8 ≡ true
+  pub ground_fits : is_ground bs 8 ≡ true

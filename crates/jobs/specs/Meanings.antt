@@ -21,22 +21,22 @@ part_machine (HeldRule h) = held (machine_of rule h.below)
 -- the arena within a job
 abbrev pub job_arena : Job → Arena
 job_arena (Flat f) = flat_arena f.header (vec_items f.bytes)
-job_arena (None j) = duty_arena (table j.ground.shape (vec_items j.ground.bytes)) (part_machine j.duty)
+job_arena (None j) = duty_arena (table j.terrain.shape (vec_items j.terrain.bytes)) (part_machine j.duty)
 job_arena (One b) =
     let j = b.value in
-    right_arena (duty_arena (table j.arena.ground.shape (vec_items j.arena.ground.bytes)) (part_machine j.arena.duty)) (part_machine j.right)
+    right_arena (duty_arena (table j.arena.terrain.shape (vec_items j.arena.terrain.bytes)) (part_machine j.arena.duty)) (part_machine j.right)
 job_arena (Two b) =
     let j = b.value in
     let i = j.arena in
-    right_arena (right_arena (duty_arena (table i.arena.ground.shape (vec_items i.arena.ground.bytes)) (part_machine i.arena.duty)) (part_machine i.right)) (part_machine j.right)
+    right_arena (right_arena (duty_arena (table i.arena.terrain.shape (vec_items i.arena.terrain.bytes)) (part_machine i.arena.duty)) (part_machine i.right)) (part_machine j.right)
 job_arena (Three b) =
     let j = b.value in
     let i = j.arena in
     let h = i.arena in
-    right_arena (right_arena (right_arena (duty_arena (table h.arena.ground.shape (vec_items h.arena.ground.bytes)) (part_machine h.arena.duty)) (part_machine h.right)) (part_machine i.right)) (part_machine j.right)
+    right_arena (right_arena (right_arena (duty_arena (table h.arena.terrain.shape (vec_items h.arena.terrain.bytes)) (part_machine h.arena.duty)) (part_machine h.right)) (part_machine i.right)) (part_machine j.right)
 job_arena (Four b) =
     let j = b.value in
     let i = j.arena in
     let h = i.arena in
     let g = h.arena in
-    right_arena (right_arena (right_arena (right_arena (duty_arena (table g.arena.ground.shape (vec_items g.arena.ground.bytes)) (part_machine g.arena.duty)) (part_machine g.right)) (part_machine h.right)) (part_machine i.right)) (part_machine j.right)
+    right_arena (right_arena (right_arena (right_arena (duty_arena (table g.arena.terrain.shape (vec_items g.arena.terrain.bytes)) (part_machine g.arena.duty)) (part_machine g.right)) (part_machine h.right)) (part_machine i.right)) (part_machine j.right)

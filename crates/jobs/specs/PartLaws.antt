@@ -110,22 +110,22 @@ right_keeps A r K = (right_sane A (part_machine r) K.0 (part_sane r), right_enti
 
 pub job_keeps : (j : Job) → Keeps (job_arena j)
 job_keeps (Flat f) = flat_keeps f.header (vec_items f.bytes)
-job_keeps (None j) = duty_keeps j.ground.shape (vec_items j.ground.bytes) j.duty
+job_keeps (None j) = duty_keeps j.terrain.shape (vec_items j.terrain.bytes) j.duty
 job_keeps (One b) =
     let g = b.value.arena in
-    right_keeps _ b.value.right (duty_keeps g.ground.shape (vec_items g.ground.bytes) g.duty)
+    right_keeps _ b.value.right (duty_keeps g.terrain.shape (vec_items g.terrain.bytes) g.duty)
 job_keeps (Two b) =
     let h = b.value.arena in
     let g = h.arena in
-    right_keeps _ b.value.right (right_keeps _ h.right (duty_keeps g.ground.shape (vec_items g.ground.bytes) g.duty))
+    right_keeps _ b.value.right (right_keeps _ h.right (duty_keeps g.terrain.shape (vec_items g.terrain.bytes) g.duty))
 job_keeps (Three b) =
     let i = b.value.arena in
     let h = i.arena in
     let g = h.arena in
-    right_keeps _ b.value.right (right_keeps _ i.right (right_keeps _ h.right (duty_keeps g.ground.shape (vec_items g.ground.bytes) g.duty)))
+    right_keeps _ b.value.right (right_keeps _ i.right (right_keeps _ h.right (duty_keeps g.terrain.shape (vec_items g.terrain.bytes) g.duty)))
 job_keeps (Four b) =
     let j = b.value.arena in
     let i = j.arena in
     let h = i.arena in
     let g = h.arena in
-    right_keeps _ b.value.right (right_keeps _ j.right (right_keeps _ i.right (right_keeps _ h.right (duty_keeps g.ground.shape (vec_items g.ground.bytes) g.duty))))
+    right_keeps _ b.value.right (right_keeps _ j.right (right_keeps _ i.right (right_keeps _ h.right (duty_keeps g.terrain.shape (vec_items g.terrain.bytes) g.duty))))

@@ -37,7 +37,7 @@ fn add_right<P: Arena + Drop>(
 // Ground and duty.
 fn load_base(heap: Global, widths: Widths, rights: u8, bytes: &[u8]) -> Result<NoRights, LoadFault>
     requires { AllSound widths.reading_bits widths.command_bits rights bytes.now }
-    ensures { MatchResult result (λ w. duty_arena (tabled w.ground.shape w.ground.bytes.items) (part_machine w.duty) ≡ nested (part_by widths.reading_bits widths.command_bits bytes.now) 0) (λ e. e ≡ NoMemory) }
+    ensures { MatchResult result (λ w. duty_arena (tabled w.terrain.shape w.terrain.bytes.items) (part_machine w.duty) ≡ nested (part_by widths.reading_bits widths.command_bits bytes.now) 0) (λ e. e ≡ NoMemory) }
 {
     let ground = load_table(heap, widths, bytes, 8)?;
     let duty = load_part(heap, widths, bytes, 1)?;

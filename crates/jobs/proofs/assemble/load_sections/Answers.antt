@@ -21,19 +21,19 @@ add-right-requires-4 c = record { few = omega arith; sound = c.requires.sound.ea
 pub returns-then-rights-eq1 : goal.returns-then-rights-eq1
 returns-then-rights-eq1 c =
     let P = part_by c.args.widths.reading_bits c.args.widths.command_bits c.args.bytes.now in
-    ap (λ w. right_arena (duty_arena (table w.arena.ground.shape (vec_items w.arena.ground.bytes)) (part_machine w.arena.duty)) (part_machine w.right)) c.in-ok-new.ensures.ok
+    ap (λ w. right_arena (duty_arena (table w.arena.terrain.shape (vec_items w.arena.terrain.bytes)) (part_machine w.arena.duty)) (part_machine w.right)) c.in-ok-new.ensures.ok
     ∙ c.in-ok-one.ensures ∙ ap (nested P) (sym c.if-rights-eq1.true)
 
 pub returns-then-rights-eq2 : goal.returns-then-rights-eq2
 returns-then-rights-eq2 c =
     let P = part_by c.args.widths.reading_bits c.args.widths.command_bits c.args.bytes.now in
-    ap (λ w. right_arena (right_arena (duty_arena (table w.arena.arena.ground.shape (vec_items w.arena.arena.ground.bytes)) (part_machine w.arena.arena.duty)) (part_machine w.arena.right)) (part_machine w.right)) c.in-ok-new-2.ensures.ok
+    ap (λ w. right_arena (right_arena (duty_arena (table w.arena.arena.terrain.shape (vec_items w.arena.arena.terrain.bytes)) (part_machine w.arena.arena.duty)) (part_machine w.arena.right)) (part_machine w.right)) c.in-ok-new-2.ensures.ok
     ∙ c.in-ok-two.ensures ∙ ap (nested P) (sym c.if-rights-eq2.true)
 
 pub returns-then-rights-eq3 : goal.returns-then-rights-eq3
 returns-then-rights-eq3 c =
     let P = part_by c.args.widths.reading_bits c.args.widths.command_bits c.args.bytes.now in
-    ap (λ w. right_arena (right_arena (right_arena (duty_arena (table w.arena.arena.arena.ground.shape (vec_items w.arena.arena.arena.ground.bytes)) (part_machine w.arena.arena.arena.duty)) (part_machine w.arena.arena.right)) (part_machine w.arena.right)) (part_machine w.right)) c.in-ok-new-3.ensures.ok
+    ap (λ w. right_arena (right_arena (right_arena (duty_arena (table w.arena.arena.arena.terrain.shape (vec_items w.arena.arena.arena.terrain.bytes)) (part_machine w.arena.arena.arena.duty)) (part_machine w.arena.arena.right)) (part_machine w.arena.right)) (part_machine w.right)) c.in-ok-new-3.ensures.ok
     ∙ c.in-ok-three.ensures ∙ ap (nested P) (sym c.if-rights-eq3.true)
 
 pub returns-in-err-new-4 : goal.returns-in-err-new-4
@@ -45,5 +45,5 @@ pub returns : goal.returns
 returns c =
     let P = part_by c.args.widths.reading_bits c.args.widths.command_bits c.args.bytes.now in
     let all : 4 ≡ c.args.rights = omega arith in
-    ap (λ w. right_arena (right_arena (right_arena (right_arena (duty_arena (table w.arena.arena.arena.arena.ground.shape (vec_items w.arena.arena.arena.arena.ground.bytes)) (part_machine w.arena.arena.arena.arena.duty)) (part_machine w.arena.arena.arena.right)) (part_machine w.arena.arena.right)) (part_machine w.arena.right)) (part_machine w.right)) c.in-ok-new-4.ensures.ok
+    ap (λ w. right_arena (right_arena (right_arena (right_arena (duty_arena (table w.arena.arena.arena.arena.terrain.shape (vec_items w.arena.arena.arena.arena.terrain.bytes)) (part_machine w.arena.arena.arena.arena.duty)) (part_machine w.arena.arena.arena.right)) (part_machine w.arena.arena.right)) (part_machine w.arena.right)) (part_machine w.right)) c.in-ok-new-4.ensures.ok
     ∙ c.in-ok-four.ensures ∙ ap (nested P) all

@@ -5,7 +5,7 @@ use Rattle.automata.proofs.duty.WithDuty.of.Goals as goal
 
 pub returns : goal.returns
 returns g c =
-    let s = c.args.ground in
+    let s = c.args.terrain in
     let t = c.args.duty in
     record {
       made = (refl, refl);
