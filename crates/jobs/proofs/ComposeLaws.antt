@@ -14,7 +14,7 @@ use Rattle.ltlf.specs.Formulas.{Ltl, terms}
 use Rattle.ltlf.specs.Reading.{outcome, checked}
 use Rattle.ltlf.specs.Laws.{TextOf}
 use Rattle.ltlf.proofs.Prefixes.{reads_as}
-use Rattle.ltlf.proofs.Sides.{codes_few}
+use Rattle.ltlf.specs.CodeLaws.{codes_few}
 use Rattle.ltlf.specs.declared.fault.TextFault.{TextFault}
 use Rattle.jobs.specs.FlatJob.{byte, narrow}
 use Rattle.jobs.specs.Sections.{is_table, is_held, count, fourth, body, section_fits, table_fits, rule_fits, text_fault}

@@ -11,8 +11,7 @@ use Rattle.automata.specs.declared.shape.Shape.{Shape}
 use Rattle.automata.proofs.LayerLaws.{Sane, Entitled, held_sane, duty_sane, right_sane, duty_entitled, right_entitled}
 use Rattle.ltlf.specs.Formulas.{Ltl, shape, terms}
 use Rattle.ltlf.specs.Codes.{count}
-use Rattle.ltlf.proofs.Sides.{codes_few}
-use Rattle.ltlf.proofs.Walks.{step_inside}
+use Rattle.ltlf.specs.CodeLaws.{codes_few, step_inside}
 use Rattle.ltlf.specs.contracts.automaton.RuleAutomaton.TheImpl.{ghosts as rule}
 use Rattle.ltlf.specs.declared.rule.Rule.{Rule as Rules}
 use Rattle.jobs.specs.Parts.{rule_machine}

@@ -8,12 +8,12 @@ use Rattle.jobs.proofs.check.check_states.Goals as goal
 abbrev answer : Bool → Result (Unit {0}) JobFault
 answer b = cond b (Ok tt) (Err TooManyStates)
 
-pub returns-then-arena-states-le256 : goal.returns-then-arena-states-le256
-returns-then-arena-states-le256 c =
-    ap answer (sym (le-leb c.arena-states.result 256 c.if-arena-states-le256.true))
-    ∙ few_by c.args.bytes.now _ _ _ _ c.arena-states.ensures c.requires.readings c.requires.commands c.requires.rights
+pub returns-then-arena_states-le256 : goal.returns-then-arena_states-le256
+returns-then-arena_states-le256 c =
+    ap answer (sym (le-leb c.arena_states.result 256 c.if-arena_states-le256.true))
+    ∙ few_by c.args.bytes.now _ _ _ _ c.arena_states.ensures c.requires.readings c.requires.commands c.requires.rights
 
-pub returns-else-arena-states-le256 : goal.returns-else-arena-states-le256
-returns-else-arena-states-le256 c =
-    ap answer (sym (lt-leb c.arena-states.result 256 c.if-arena-states-le256.false))
-    ∙ few_by c.args.bytes.now _ _ _ _ c.arena-states.ensures c.requires.readings c.requires.commands c.requires.rights
+pub returns-else-arena_states-le256 : goal.returns-else-arena_states-le256
+returns-else-arena_states-le256 c =
+    ap answer (sym (lt-leb c.arena_states.result 256 c.if-arena_states-le256.false))
+    ∙ few_by c.args.bytes.now _ _ _ _ c.arena_states.ensures c.requires.readings c.requires.commands c.requires.rights

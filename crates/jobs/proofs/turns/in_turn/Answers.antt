@@ -7,4 +7,4 @@ pub returns-in-Err : goal.returns-in-Err
 returns-in-Err c = sym (in_turn_err _ c.loop-i.i c.args.sections c.in-Err.fault c.loop-i.invariant (sym c.in-Err.ensures) c.loop-i-test.true)
 
 pub loop-i-preserved : goal.loop-i-preserved
-loop-i-preserved c = in_turn_more _ c.loop-i.i c.in-default.field-0 c.loop-i.invariant (sym c.in-default.ensures)
+loop-i-preserved c = in_turn_more _ c.loop-i.i c.in_default.field-0 c.loop-i.invariant (sym c.in_default.ensures)
