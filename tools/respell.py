@@ -89,6 +89,10 @@ def main():
                     names[name] = new
     files = [p for c in crates for p in antt(root, c)]
     files += sorted(glob.glob(f"{root}/crates/*/src/**/*.rt", recursive=True))
+    for path in files:
+        # what an import is called here
+        for name in re.findall(r" as ([A-Za-z]+(?:-[A-Za-z]+)+)[,}]", read(path)):
+            names.setdefault(name, respelled(name, True))
     taken = {}
     for path in files:
         words = set(WORD.findall(read(path)))

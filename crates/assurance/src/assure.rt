@@ -3,7 +3,7 @@ ghost use Rattle.std.specs.Prelude.{◌≡◌, ℕ, ◌≤◌, length};
 ghost use Rattle.automata.specs.Arena.{arena_of};
 ghost use Rattle.games.specs.declared.verdict.Verdict.TheVariants.{Planned};
 ghost use Rattle.games.specs.Meant.{Meant};
-ghost use Rattle.games.specs.Verdicts.{verdict as verdict-on};
+ghost use Rattle.games.specs.Verdicts.{verdict as verdict_on};
 ghost use Rattle.planner.specs.Planned.{planned_answer, planned_buffer};
 ghost use Rattle.assurance.specs.Statement.{Holds};
 ghost use Rattle.assurance.specs.Assured.{verdict_of, Assured, DrivesOn};
@@ -50,7 +50,7 @@ pub fn assure<P: Arena>(
     ensures answer { verdict_of result ≡ planned_answer (arena_of P.Automaton P.Arena.own arena.now) (length buffer.old) }
     ensures buffer { buffer.new ≡ planned_buffer (arena_of P.Automaton P.Arena.own arena.now) buffer.old }
     ensures meant { P.Automaton.n arena.now ≤ 256 → Meant (arena_of P.Automaton P.Arena.own arena.now) }
-    ensures runs { P.Automaton.n arena.now ≤ 256 → (rounds : ℕ) → verdict-on (arena_of P.Automaton P.Arena.own arena.now) ≡ Planned rounds → Holds (arena_of P.Automaton P.Arena.own arena.now) rounds }
+    ensures runs { P.Automaton.n arena.now ≤ 256 → (rounds : ℕ) → verdict_on (arena_of P.Automaton P.Arena.own arena.now) ≡ Planned rounds → Holds (arena_of P.Automaton P.Arena.own arena.now) rounds }
     ensures assured { Assured (arena_of P.Automaton P.Arena.own arena.now) buffer.new entries.old entries.new result }
 {
     let verdict = planner.plan(arena, buffer)?;

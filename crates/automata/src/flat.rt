@@ -5,9 +5,9 @@ ghost use Rattle.std.proofs.Common.{rules};
 
 use crate::arena::Arena;
 use crate::automaton::Automaton;
+use crate::bits::has_bit;
 use crate::bytes::Bytes;
 use crate::header::FlatHeader;
-use ranges::bits::has_bit;
 
 #[derive(Drop)]
 pub struct Flat<B> {

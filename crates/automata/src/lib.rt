@@ -1,6 +1,7 @@
 // Automata and arenas by their answers, and the arena of a flat job.
 pub mod arena;
 pub mod automaton;
+pub mod bits;
 pub mod bytes;
 pub mod duty;
 pub mod flat;

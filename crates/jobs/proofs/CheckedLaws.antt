@@ -3,12 +3,11 @@ use Rattle.std.proofs.Common.{◌≡◌, ℕ, zero, suc, ◌+◌, ◌<◌, ◌�
 use Rattle.std.specs.Result.{result_and, result_map_both}
 use Rattle.ranges.proofs.RangeLaws.{below_suc}
 use Rattle.std.proofs.lemmas.Bool.{and_parts, eqb-true}
-use Rattle.jobs.specs.FlatJob.{byte, leads, narrow, flat_job}
-use Rattle.jobs.specs.Sections.{section_fits, is_ground}
+use Rattle.jobs.specs.FlatJob.{byte, begins_as, leads, narrow, flat_job}
+use Rattle.jobs.specs.Sections.{section_fits, is_ground, ground_fault, text_fault}
 use Rattle.jobs.specs.Parts.{offset, sections_arena}
 use Rattle.jobs.specs.JobFile.{in_turn, looked_for, turn, total, ended, few_states, sections_checked, sectioned_checked, job_checked}
 use Rattle.jobs.specs.Loaded.{Sound, AllSound}
-use Rattle.jobs.specs.declared.fault.SectionFault.{SectionFault}
 use Rattle.jobs.specs.declared.fault.JobFault.{JobFault}
 use Rattle.jobs.specs.declared.fault.JobFault.TheVariants.{Section}
 use Rattle.jobs.specs.declared.turn.Turn.{Turn}
@@ -33,11 +32,11 @@ mapped_ok g (Ok t) h = refl
 mapped_ok g (Err e) h = err_not h
 
 -- a turn without a fault finds none anywhere
-pub in_turn_at : (f : ℕ → Result (Unit {0}) SectionFault) (n i : ℕ) → Good (in_turn n f) → i < n → Good (f i)
+pub in_turn_at : (f : ℕ → Result (Unit {0}) JobFault) (n i : ℕ) → Good (in_turn n f) → i < n → Good (f i)
 in_turn_at f zero i h l = absurd (omega arith)
 in_turn_at f (suc n) i h l =
-    let two = and_ok (in_turn n f) (result_map_both (λ u. u) (Section n) (f n)) h in
-    go (below_suc i n l) (mapped_ok (Section n) (f n) two.1) (in_turn_at f n i two.0)
+    let two = and_ok (in_turn n f) (f n) h in
+    go (below_suc i n l) two.1 (in_turn_at f n i two.0)
   where
     go : (i ≡ n) ⊎ (i < n) → Good (f n) → (i < n → Good (f i)) → Good (f i)
     go (inl e) here ih = subst (λ (m : ℕ). Good (f m)) (sym e) here
@@ -52,7 +51,7 @@ pub record Passed (bs : List ℕ) : Type 0 where
 
 pub passed : (bs : List ℕ) → Good (sectioned_checked bs) → Passed bs
 passed bs h =
-    let lead = cond_ok (leads 74 bs) _ _ h in
+    let lead = cond_ok (begins_as 74 bs) _ _ h in
     let wide = cond_ok (narrow bs) _ _ lead.1 in
     let rights = cond_ok (leb (byte bs 5) 4) _ _ wide.1 in
     let whole = cond_ok (eqb (total bs) (length bs)) _ _ rights.1 in
@@ -79,9 +78,9 @@ pub all_sound : (bs : List ℕ) → Passed bs → AllSound (byte bs 3) (byte bs 
 all_sound bs p = record {
   each = λ i l. record {
     fits = (cond_ok (section_fits (byte bs 3) (byte bs 4) bs (offset (byte bs 3) (byte bs 4) bs i)) _ _ (in_turn_at (looked_for Forms (byte bs 3) (byte bs 4) bs) (byte bs 5 + 2) i (p.turns Forms) l)).0;
-    text = in_turn_at (looked_for Texts (byte bs 3) (byte bs 4) bs) (byte bs 5 + 2) i (p.turns Texts) l;
+    text = mapped_ok (Section i) (text_fault (byte bs 3) (byte bs 4) bs (offset (byte bs 3) (byte bs 4) bs i)) (in_turn_at (looked_for Texts (byte bs 3) (byte bs 4) bs) (byte bs 5 + 2) i (p.turns Texts) l);
   };
-  ground_fits = (cond_ok (is_ground bs 8) _ _ (in_turn_at (looked_for Ground (byte bs 3) (byte bs 4) bs) (byte bs 5 + 2) 0 (p.turns Ground) (omega arith))).0;
+  ground_fits = (cond_ok (is_ground bs 8) _ _ (mapped_ok (Section 0) (ground_fault bs 0 8) (in_turn_at (looked_for Ground (byte bs 3) (byte bs 4) bs) (byte bs 5 + 2) 0 (p.turns Ground) (omega arith)))).0;
 }
 
 -- the same, by numbers that are the head's
@@ -92,10 +91,10 @@ all_sound_by bs a b k ea eb ek h =
     (subst (λ (n : ℕ). AllSound (byte bs 3) (byte bs 4) n bs) (sym ek) (all_sound bs (passed bs h))))
 
 -- a job in sections is checked as one
-pub sectioned : (bs : List ℕ) → Good (job_checked bs) → leads 74 bs ≡ true → Good (sectioned_checked bs)
-sectioned bs ok lead = go (leads 70 bs) refl ok
+pub sectioned : (bs : List ℕ) → Good (job_checked bs) → begins_as 74 bs ≡ true → Good (sectioned_checked bs)
+sectioned bs ok lead = go (leads bs) refl ok
   where
-    go : (t : Bool) → leads 70 bs ≡ t → Good (cond t (result_map_both (λ h. tt) (λ e. e) (flat_job bs)) (sectioned_checked bs)) → Good (sectioned_checked bs)
+    go : (t : Bool) → leads bs ≡ t → Good (cond t (result_map_both (λ h. tt) (λ e. e) (flat_job bs)) (sectioned_checked bs)) → Good (sectioned_checked bs)
     go false e h = h
     go true e h =
         let p = (and_parts _ _ (and_parts _ _ e).0).1 in

@@ -1,27 +1,25 @@
 -- Turns through the sections, and the body of a section.
 use Rattle.std.proofs.Common.{◌≡◌, ℕ, zero, suc, ◌+◌, ◌-◌, ◌<◌, ◌≤◌, ◌⊎◌, List, [], length, take, drop, Ok, Err, Result, sym, refl, ap, ◌∙◌, subst, ap₂, inl, inr, add-one, arith, length-drop, take_all}
 use Rattle.std.proofs.lemmas.List.{drop_all}
-use Rattle.std.specs.Result.{result_and, result_map_both}
+use Rattle.std.specs.Result.{result_and}
 use Rattle.ranges.proofs.RangeLaws.{below_suc}
 use Rattle.jobs.specs.JobFile.{in_turn}
-use Rattle.jobs.specs.declared.fault.SectionFault.{SectionFault}
 use Rattle.jobs.specs.declared.fault.JobFault.{JobFault}
-use Rattle.jobs.specs.declared.fault.JobFault.TheVariants.{Section}
 
 -- a fault ends the turn
-pub in_turn_err : (f : ℕ → Result (Unit {0}) SectionFault) (i n : ℕ) (e : SectionFault) → in_turn i f ≡ Ok tt → f i ≡ Err e → i < n → in_turn n f ≡ Err (Section i e)
+pub in_turn_err : (f : ℕ → Result (Unit {0}) JobFault) (i n : ℕ) (e : JobFault) → in_turn i f ≡ Ok tt → f i ≡ Err e → i < n → in_turn n f ≡ Err e
 in_turn_err f i zero e ok err h = absurd (omega arith)
 in_turn_err f i (suc n) e ok err h = go (below_suc i n h) (in_turn_err f i n e ok err)
   where
-    go : (i ≡ n) ⊎ (i < n) → (i < n → in_turn n f ≡ Err (Section i e)) → in_turn (suc n) f ≡ Err (Section i e)
+    go : (i ≡ n) ⊎ (i < n) → (i < n → in_turn n f ≡ Err e) → in_turn (suc n) f ≡ Err e
     go (inl same) ih =
-        let last : in_turn (suc i) f ≡ Err (Section i e) = ap₂ {C = Result (Unit {0}) JobFault} (λ r s. result_and r (result_map_both (λ u. u) (Section i) s)) ok err in
-        subst (λ (m : ℕ). in_turn (suc m) f ≡ Err (Section i e)) same last
-    go (inr less) ih = ap {B = Result (Unit {0}) JobFault} (λ r. result_and r (result_map_both (λ u. u) (Section n) (f n))) (ih less)
+        let last : in_turn (suc i) f ≡ Err e = ap₂ {C = Result (Unit {0}) JobFault} (λ r s. result_and r s) ok err in
+        subst (λ (m : ℕ). in_turn (suc m) f ≡ Err e) same last
+    go (inr less) ih = ap {B = Result (Unit {0}) JobFault} (λ r. result_and r (f n)) (ih less)
 
 -- a section without a fault leaves it
-pub in_turn_more : (f : ℕ → Result (Unit {0}) SectionFault) (i : ℕ) (u : Unit {0}) → in_turn i f ≡ Ok tt → f i ≡ Ok u → in_turn (i + 1) f ≡ Ok tt
-in_turn_more f i u ok here = rw add-one (ap₂ {C = Result (Unit {0}) JobFault} (λ r s. result_and r (result_map_both (λ u. u) (Section i) s)) ok here)
+pub in_turn_more : (f : ℕ → Result (Unit {0}) JobFault) (i : ℕ) (u : Unit {0}) → in_turn i f ≡ Ok tt → f i ≡ Ok u → in_turn (i + 1) f ≡ Ok tt
+in_turn_more f i u ok here = rw add-one (ap₂ {C = Result (Unit {0}) JobFault} (λ r s. result_and r s) ok here)
 
 -- no byte is left past the end
 pub none_left : (n m : ℕ) (bs : List ℕ) → length bs < m → [] ≡ take n (drop m bs)

@@ -4,8 +4,7 @@ use Rattle.std.specs.Prelude.{ℕ, ◌+◌, ◌*◌, ◌^◌, Bool, cond, ◌&&�
 use Rattle.ranges.specs.Ranges.{all}
 use Rattle.automata.specs.declared.header.FlatHeader.{FlatHeader}
 use Rattle.jobs.specs.declared.fault.JobFault.{JobFault}
-use Rattle.jobs.specs.declared.fault.JobFault.TheVariants.{NotAJob, TooManyBits, TooManyRights, Section}
-use Rattle.jobs.specs.declared.fault.SectionFault.TheVariants.{Malformed}
+use Rattle.jobs.specs.declared.fault.JobFault.TheVariants.{NotAJob, TooManyBits, TooManyRights, Malformed}
 
 -- the byte at a place, or 0 past the end
 abbrev pub byte : List ℕ → ℕ → ℕ
@@ -23,8 +22,12 @@ abbrev pub head : List ℕ → Head
 head bs = record { reading_bits = byte bs 3; command_bits = byte bs 4; rights = byte bs 5; count = byte bs 6; start = byte bs 7 }
 
 -- at least eight bytes, of which the first three are 68, the byte of the job's form, and 1
-abbrev pub leads : ℕ → List ℕ → Bool
-leads form bs = nat_le 8 (length bs) && byte bs 0 == 68 && byte bs 1 == form && byte bs 2 == 1
+abbrev pub begins_as : ℕ → List ℕ → Bool
+begins_as form bs = nat_le 8 (length bs) && byte bs 0 == 68 && byte bs 1 == form && byte bs 2 == 1
+
+-- a flat job's form is 70
+abbrev pub leads : List ℕ → Bool
+leads bs = nat_le 8 (length bs) && byte bs 0 == 68 && byte bs 1 == 70 && byte bs 2 == 1
 
 abbrev pub narrow : List ℕ → Bool
 narrow bs = nat_le (byte bs 3) 3 && nat_le (byte bs 4) 3
@@ -55,10 +58,10 @@ rest_fits bs = states_fit bs && ends bs && marks_fit bs && steps_fit bs
 -- the head of a flat job, or the first refusal that applies
 abbrev pub flat_job : List ℕ → Result Head JobFault
 flat_job bs =
-    cond (leads 70 bs)
+    cond (leads bs)
     (cond (narrow bs)
     (cond (nat_le (byte bs 5) 4)
-    (cond (rest_fits bs) (Ok (head bs)) (Err (Section 0 Malformed)))
+    (cond (rest_fits bs) (Ok (head bs)) (Err (Malformed 0)))
     (Err TooManyRights))
     (Err TooManyBits))
     (Err NotAJob)

@@ -4,37 +4,40 @@
 use Rattle.std.specs.Prelude.{ℕ, zero, suc, ◌+◌, ◌*◌, Bool, true, false, cond, ◌&&◌, List, length, Ok, Err, Result, ◌==◌, nat_le}
 use Rattle.std.specs.Result.{result_and, result_map_both}
 use Rattle.automata.specs.Arena.{Arena}
-use Rattle.jobs.specs.FlatJob.{byte, leads, narrow, flat_job}
+use Rattle.jobs.specs.FlatJob.{byte, begins_as, leads, narrow, flat_job}
 use Rattle.jobs.specs.Sections.{form_fault, ground_fault, none_fault, text_fault}
 use Rattle.jobs.specs.Parts.{offset, sections_arena}
 use Rattle.jobs.specs.declared.fault.SectionFault.{SectionFault}
-use Rattle.jobs.specs.declared.fault.SectionFault.TheVariants.{Malformed}
 use Rattle.jobs.specs.declared.fault.JobFault.{JobFault}
-use Rattle.jobs.specs.declared.fault.JobFault.TheVariants.{NotAJob, TooManyBits, TooManyRights, WrongTotal, Section, TooManyStates}
+use Rattle.jobs.specs.declared.fault.JobFault.TheVariants.{NotAJob, TooManyBits, TooManyRights, Malformed, WrongTotal, Section, TooManyStates}
 use Rattle.jobs.specs.declared.turn.Turn.{Turn}
 use Rattle.jobs.specs.declared.turn.Turn.TheVariants.{Forms, Ground, Nones, Texts}
 
 abbrev pub total : List ℕ → ℕ
 total bs = byte bs 6 + 256 * byte bs 7
 
--- the sections' faults, each with its section, in turn: the first fault among the sections below m
-abbrev pub in_turn : ℕ → (ℕ → Result (Unit {0}) SectionFault) → Result (Unit {0}) JobFault
+-- the sections' faults in turn: the first fault among the sections below m
+abbrev pub in_turn : ℕ → (ℕ → Result (Unit {0}) JobFault) → Result (Unit {0}) JobFault
 in_turn zero fault = Ok tt
-in_turn (suc m) fault = result_and (in_turn m fault) (result_map_both (λ u. u) (Section m) (fault m))
+in_turn (suc m) fault = result_and (in_turn m fault) (fault m)
+
+-- the job adds which section it is
+abbrev pub of_section : ℕ → Result (Unit {0}) SectionFault → Result (Unit {0}) JobFault
+of_section i r = result_map_both (λ u. u) (Section i) r
 
 -- what is looked for in one turn through the sections
-abbrev pub looked_for : Turn → ℕ → ℕ → List ℕ → ℕ → Result (Unit {0}) SectionFault
-looked_for Forms a b bs i = form_fault a b bs (offset a b bs i)
-looked_for Ground a b bs i = ground_fault bs i (offset a b bs i)
-looked_for Nones a b bs i = none_fault a b bs i (offset a b bs i)
-looked_for Texts a b bs i = text_fault a b bs (offset a b bs i)
+abbrev pub looked_for : Turn → ℕ → ℕ → List ℕ → ℕ → Result (Unit {0}) JobFault
+looked_for Forms a b bs i = form_fault a b bs i (offset a b bs i)
+looked_for Ground a b bs i = of_section i (ground_fault bs i (offset a b bs i))
+looked_for Nones a b bs i = of_section i (none_fault a b bs i (offset a b bs i))
+looked_for Texts a b bs i = of_section i (text_fault a b bs (offset a b bs i))
 
 abbrev pub turn : Turn → List ℕ → Result (Unit {0}) JobFault
 turn t bs = in_turn (byte bs 5 + 2) (looked_for t (byte bs 3) (byte bs 4) bs)
 
 -- bytes behind the last section count as its fault
 abbrev pub ended : List ℕ → Result (Unit {0}) JobFault
-ended bs = cond (offset (byte bs 3) (byte bs 4) bs (byte bs 5 + 2) == length bs) (Ok tt) (Err (Section (byte bs 5 + 1) Malformed))
+ended bs = cond (offset (byte bs 3) (byte bs 4) bs (byte bs 5 + 2) == length bs) (Ok tt) (Err (Malformed (byte bs 5 + 1)))
 
 abbrev pub few_states : List ℕ → Result (Unit {0}) JobFault
 few_states bs = cond (nat_le (sections_arena bs).n 256) (Ok tt) (Err TooManyStates)
@@ -47,7 +50,7 @@ sections_checked bs =
 -- a job in sections: the first refusal that applies, if one does
 abbrev pub sectioned_checked : List ℕ → Result (Unit {0}) JobFault
 sectioned_checked bs =
-    cond (leads 74 bs)
+    cond (begins_as 74 bs)
     (cond (narrow bs)
     (cond (nat_le (byte bs 5) 4)
     (cond (total bs == length bs) (sections_checked bs)
@@ -58,4 +61,4 @@ sectioned_checked bs =
 
 -- any job
 abbrev pub job_checked : List ℕ → Result (Unit {0}) JobFault
-job_checked bs = cond (leads 70 bs) (result_map_both (λ h. tt) (λ e. e) (flat_job bs)) (sectioned_checked bs)
+job_checked bs = cond (leads bs) (result_map_both (λ h. tt) (λ e. e) (flat_job bs)) (sectioned_checked bs)

@@ -2,7 +2,7 @@
 use Rattle.std.specs.Prelude.{◌≡◌, ℕ, ◌+◌, ◌<◌, true, cond, List, Ok, Err, Result}
 use Rattle.automata.specs.Arena.{Arena}
 use Rattle.automata.specs.Flat.{flat_by}
-use Rattle.jobs.specs.FlatJob.{byte, leads}
+use Rattle.jobs.specs.FlatJob.{byte, begins_as, leads}
 use Rattle.jobs.specs.Sections.{section_fits, text_fault, is_ground}
 use Rattle.jobs.specs.Parts.{offset, sections_arena}
 use Rattle.jobs.specs.JobFile.{job_checked}
@@ -16,7 +16,7 @@ use Rattle.jobs.specs.declared.load.LoadFault.TheVariants.{Refused, Memory}
 -- the arena of any job's bytes
 abbrev pub bytes_arena : List ℕ → Arena
 bytes_arena bs =
-    cond (leads 70 bs) (flat_by (byte bs 3) (byte bs 4) (byte bs 5) (byte bs 6) (byte bs 7) bs) (sections_arena bs)
+    cond (leads bs) (flat_by (byte bs 3) (byte bs 4) (byte bs 5) (byte bs 6) (byte bs 7) bs) (sections_arena bs)
 
 -- a job with that arena, or the refusal; memory may be wanting only where the bytes are a job
 abbrev pub Loads : List ℕ → Result Job LoadFault → Type 0
@@ -26,7 +26,7 @@ Loads bs (Err Memory) = job_checked bs ≡ Ok tt
 
 -- what a job in sections makes of words
 abbrev pub Composes : List ℕ → Type 0
-Composes bs = job_checked bs ≡ Ok tt → leads 74 bs ≡ true → Composed bs
+Composes bs = job_checked bs ≡ Ok tt → begins_as 74 bs ≡ true → Composed bs
 
 -- a section that can be made: it is well formed, and its text, if it has one, is a rule's
 pub record Sound (a b : ℕ) (bs : List ℕ) (i : ℕ) : Type 0 where

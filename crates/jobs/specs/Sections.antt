@@ -6,8 +6,10 @@ use Rattle.std.specs.Result.{result_map_both}
 use Rattle.ranges.specs.Ranges.{all}
 use Rattle.ltlf.specs.Reading.{checked}
 use Rattle.jobs.specs.FlatJob.{byte}
+use Rattle.jobs.specs.declared.fault.JobFault.{JobFault}
+use Rattle.jobs.specs.declared.fault.JobFault.TheVariants.{Malformed}
 use Rattle.jobs.specs.declared.fault.SectionFault.{SectionFault}
-use Rattle.jobs.specs.declared.fault.SectionFault.TheVariants.{Malformed, NotAGround, StepsToNone, Text}
+use Rattle.jobs.specs.declared.fault.SectionFault.TheVariants.{NotAGround, StepsToNone, Text}
 
 abbrev pub is_table : List ℕ → ℕ → Bool
 is_table bs o = byte bs o == 1
@@ -66,8 +68,8 @@ abbrev pub goes_on : ℕ → ℕ → List ℕ → ℕ → Bool
 goes_on a b bs o = not (is_table bs o) || all (cells a b bs o) (λ i. not (cell bs o i == 255))
 
 -- THE FAULTS of section i, which begins at o, each kind by itself
-abbrev pub form_fault : ℕ → ℕ → List ℕ → ℕ → Result (Unit {0}) SectionFault
-form_fault a b bs o = cond (section_fits a b bs o) (Ok tt) (Err Malformed)
+abbrev pub form_fault : ℕ → ℕ → List ℕ → ℕ → ℕ → Result (Unit {0}) JobFault
+form_fault a b bs i o = cond (section_fits a b bs o) (Ok tt) (Err (Malformed i))
 
 -- section 0 is the ground
 abbrev pub ground_fault : List ℕ → ℕ → ℕ → Result (Unit {0}) SectionFault

@@ -5,7 +5,7 @@ ghost use Rattle.jobs.specs.FlatJob.{byte};
 ghost use Rattle.jobs.specs.JobFile.{ended, few_states, sections_checked, sectioned_checked, job_checked};
 
 use crate::count::arena_states;
-use crate::fault::{JobFault, SectionFault};
+use crate::fault::JobFault;
 use crate::flat::{leads, read_flat};
 use crate::turn::Turn;
 use crate::turns::{in_turn, offset};
@@ -30,7 +30,7 @@ fn check_end(widths: Widths, rights: u8, bytes: &[u8]) -> Result<(), JobFault>
     if offset(widths, bytes, rights + 2) == bytes.len() {
         Ok(())
     } else {
-        Err(JobFault::Section(rights + 1, SectionFault::Malformed))
+        Err(JobFault::Malformed(rights + 1))
     }
 }
 

@@ -9,8 +9,6 @@ use ltlf::fault::TextFault;
 // Why a section is refused.
 #[derive(Clone, Copy, PartialEq, Eq, Debug)]
 pub enum SectionFault {
-    // It is malformed, cut short or, if it is the last, followed by spare bytes.
-    Malformed,
     // The ground is a rule, held or marked.
     NotAGround,
     // A duty or a right has a step to none.
@@ -28,6 +26,9 @@ pub enum JobFault {
     TooManyBits,
     // More than four rights.
     TooManyRights,
+    // A section is malformed, cut short or followed by spare bytes. What follows the head of a
+    // flat job counts as section 0.
+    Malformed(u8),
     // The total is not the number of bytes.
     WrongTotal,
     // A section is refused: the ground is section 0, the duty 1, right i is i + 1. What follows
@@ -50,7 +51,6 @@ impl SectionFault {
         ensures { result ≡ section_number self.now }
     {
         match *self {
-            SectionFault::Malformed => 12,
             SectionFault::NotAGround => 13,
             SectionFault::StepsToNone => 14,
             SectionFault::Text(_) => 15,
@@ -67,6 +67,7 @@ impl JobFault {
             JobFault::NotAJob => 8,
             JobFault::TooManyBits => 9,
             JobFault::TooManyRights => 10,
+            JobFault::Malformed(_) => 12,
             JobFault::WrongTotal => 11,
             JobFault::Section(_, fault) => fault.number(),
             JobFault::TooManyStates => 16,
@@ -78,6 +79,7 @@ impl JobFault {
         ensures { result ≡ fault_section self.now }
     {
         match *self {
+            JobFault::Malformed(section) => Some(section),
             JobFault::Section(section, _) => Some(section),
             _ => None,
         }

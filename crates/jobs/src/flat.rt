@@ -1,6 +1,6 @@
 // Reading a flat job: one table with all marks.
 ghost use Rattle.std.specs.Prelude.{◌≡◌, ◌*◌, ◌^◌, ◌≤◌, Bool, true, ◌||◌};
-ghost use Rattle.jobs.specs.FlatJob.{byte, leads, narrow, cells, states_fit, marks_fit, steps_fit, rest_fits, told, flat_job};
+ghost use Rattle.jobs.specs.FlatJob.{byte, begins_as, narrow, cells, states_fit, marks_fit, steps_fit, rest_fits, told, flat_job};
 
 use crate::fault::{JobFault, SectionFault};
 use crate::scan::{ByteTest, all_pass};
@@ -9,7 +9,7 @@ use automata::header::FlatHeader;
 
 // Whether the bytes begin as a job of the form does: 70 is flat, 74 in sections.
 pub(crate) fn leads(form: u8, bytes: &[u8]) -> bool
-    ensures { result ≡ leads form bytes.now }
+    ensures { result ≡ begins_as form bytes.now }
 {
     (bytes.len() >= 8) & (bytes.at(0) == 68) & (bytes.at(1) == form) & (bytes.at(2) == 1)
 }
@@ -103,7 +103,7 @@ pub fn read_flat(bytes: &[u8]) -> Result<FlatHeader, JobFault>
         return Err(JobFault::TooManyRights);
     }
     if !rest_fits(bytes) {
-        return Err(JobFault::Section(0, SectionFault::Malformed));
+        return Err(JobFault::Malformed(0));
     }
     Ok(FlatHeader {
         reading_bits: bytes.at(3),

@@ -3,7 +3,7 @@ mod assemble;
 pub mod check;
 mod count;
 pub mod fault;
-mod flat;
+pub mod flat;
 pub mod job;
 pub mod load;
 pub mod part;

@@ -1,6 +1,6 @@
 // From bytes to the arena of a job.
 ghost use Rattle.std.specs.Prelude.{◌≡◌, true, false};
-ghost use Rattle.jobs.specs.FlatJob.{leads as begins_as};
+ghost use Rattle.jobs.specs.FlatJob.{begins_as};
 ghost use Rattle.jobs.specs.Loaded.{Loads, Composes};
 
 use crate::assemble::load_sections;

@@ -42,7 +42,7 @@ pub(crate) fn body<'a>(widths: Widths, bytes: &'a [u8], o: usize) -> &'a [u8]
 }
 
 // Nothing where a test holds, else the fault.
-fn unless(holds: bool, fault: SectionFault) -> Result<(), SectionFault>
+fn unless(holds: bool, fault: JobFault) -> Result<(), JobFault>
     ensures { result ≡ (if holds then Ok tt else Err fault) }
 {
     if holds { Ok(()) } else { Err(fault) }
@@ -65,19 +65,25 @@ fn text_fault(widths: Widths, bytes: &[u8], o: usize) -> Result<(), SectionFault
 }
 
 // What one turn finds at section `i`.
-fn find(turn: Turn, widths: Widths, bytes: &[u8], i: u8) -> Result<(), SectionFault>
+fn find(turn: Turn, widths: Widths, bytes: &[u8], i: u8) -> Result<(), JobFault>
     requires { i ≤ 5 }
     ensures { result ≡ looked_for turn widths.reading_bits widths.command_bits bytes.now i }
 {
     let o = offset(widths, bytes, i);
     match turn {
-        Turn::Forms => unless(section_fits(widths, bytes, o), SectionFault::Malformed),
-        Turn::Ground => unless(!(i == 0) | is_ground(bytes, o), SectionFault::NotAGround),
+        Turn::Forms => unless(section_fits(widths, bytes, o), JobFault::Malformed(i)),
+        Turn::Ground => unless(
+            !(i == 0) | is_ground(bytes, o),
+            JobFault::Section(i, SectionFault::NotAGround),
+        ),
         Turn::Nones => unless(
             (i == 0) | goes_on(widths, bytes, o),
-            SectionFault::StepsToNone,
+            JobFault::Section(i, SectionFault::StepsToNone),
         ),
-        Turn::Texts => text_fault(widths, bytes, o),
+        Turn::Texts => match text_fault(widths, bytes, o) {
+            Ok(()) => Ok(()),
+            Err(fault) => Err(JobFault::Section(i, fault)),
+        },
     }
 }
 
@@ -92,9 +98,7 @@ pub(crate) fn in_turn(
     ensures { result ≡ in_turn sections (looked_for turn widths.reading_bits widths.command_bits bytes.now) }
 {
     for i in 0..sections {
-        if let Err(fault) = find(turn, widths, bytes, i) {
-            return Err(JobFault::Section(i, fault));
-        }
+        find(turn, widths, bytes, i)?;
     }
     Ok(())
 }

@@ -3,21 +3,21 @@ use Rattle.std.proofs.Common.{◌≡◌, ℕ, ◌+◌, ◌<◌, Bool, true, fals
 use Rattle.std.proofs.lemmas.Bool.Decides.{nat_tests}
 use Rattle.ltlf.specs.Formulas.{Ltl, truth, digit, one, two, byte1, byte2, prefix, digits_below}
 use Rattle.ltlf.specs.Tokens.{kind}
-use Rattle.ltlf.specs.declared.formula.Unary.{Unary as Unary-op}
+use Rattle.ltlf.specs.declared.formula.Unary.{Unary as UnaryOp}
 use Rattle.ltlf.specs.declared.formula.Unary.TheVariants.{Not, Next, Eventually, Always}
-use Rattle.ltlf.specs.declared.formula.Binary.{Binary as Binary-op}
+use Rattle.ltlf.specs.declared.formula.Binary.{Binary as BinaryOp}
 use Rattle.ltlf.specs.declared.formula.Binary.TheVariants.{And, Or, Until}
 use Rattle.ltlf.specs.declared.token.Token.{Token}
 use Rattle.ltlf.specs.declared.token.Token.TheVariants.{Truth, Digit, Unary, Binary}
 use Rattle.ltlf.proofs.Truths.{and_left, and_right}
 
-pub kind_one : (o : Unary-op) → kind (byte1 o) ≡ Some (Unary o)
+pub kind_one : (o : UnaryOp) → kind (byte1 o) ≡ Some (Unary o)
 kind_one Not = refl
 kind_one Next = refl
 kind_one Eventually = refl
 kind_one Always = refl
 
-pub kind_two : (o : Binary-op) → kind (byte2 o) ≡ Some (Binary o)
+pub kind_two : (o : BinaryOp) → kind (byte2 o) ≡ Some (Binary o)
 kind_two And = refl
 kind_two Or = refl
 kind_two Until = refl
@@ -69,14 +69,14 @@ module _ (bits : ℕ) (c : ℕ) (cs after : List ℕ) where
   digit_head (one o p) j e d k = absurd (let h : Unary o ≡ Digit j = same_head (one o p) (Digit j) e d k in let z : ◌≡◌ {A = ℕ} 0 1 = cc in omega arith)
   digit_head (two o p q) j e d k = absurd (let h : Binary o ≡ Digit j = same_head (two o p q) (Digit j) e d k in let z : ◌≡◌ {A = ℕ} 0 1 = cc in omega arith)
 
-  pub one_head : (p : Ltl) (o : Unary-op) → c ∷ cs ≡ prefix p ++ after → digits_below bits p ≡ true → kind c ≡ Some (Unary o) →
+  pub one_head : (p : Ltl) (o : UnaryOp) → c ∷ cs ≡ prefix p ++ after → digits_below bits p ≡ true → kind c ≡ Some (Unary o) →
       (q : Ltl) × (one o q ≡ p) × (cs ≡ prefix q ++ after) × (digits_below bits q ≡ true)
   one_head (truth u) o e d k = absurd (let h : Truth u ≡ Unary o = same_head (truth u) (Unary o) e d k in let z : ◌≡◌ {A = ℕ} 0 1 = cc in omega arith)
   one_head (digit i) o e d k = absurd (let h : Digit i ≡ Unary o = same_head (digit i) (Unary o) e d k in let z : ◌≡◌ {A = ℕ} 0 1 = cc in omega arith)
   one_head (one u q) o e d k = let h : Unary u ≡ Unary o = same_head (one u q) (Unary o) e d k in (q, cc, cc, d)
   one_head (two u p q) o e d k = absurd (let h : Binary u ≡ Unary o = same_head (two u p q) (Unary o) e d k in let z : ◌≡◌ {A = ℕ} 0 1 = cc in omega arith)
 
-  pub two_head : (p : Ltl) (o : Binary-op) → c ∷ cs ≡ prefix p ++ after → digits_below bits p ≡ true → kind c ≡ Some (Binary o) →
+  pub two_head : (p : Ltl) (o : BinaryOp) → c ∷ cs ≡ prefix p ++ after → digits_below bits p ≡ true → kind c ≡ Some (Binary o) →
       (q : Ltl) × (r : Ltl) × (two o q r ≡ p) × (cs ≡ prefix q ++ (prefix r ++ after)) × (digits_below bits q ≡ true) × (digits_below bits r ≡ true)
   two_head (truth u) o e d k = absurd (let h : Truth u ≡ Binary o = same_head (truth u) (Binary o) e d k in let z : ◌≡◌ {A = ℕ} 0 1 = cc in omega arith)
   two_head (digit i) o e d k = absurd (let h : Digit i ≡ Binary o = same_head (digit i) (Binary o) e d k in let z : ◌≡◌ {A = ℕ} 0 1 = cc in omega arith)

@@ -7,8 +7,8 @@ use Rattle.ltlf.specs.Reading.{Read, chain, operands, follows, reads}
 use Rattle.ltlf.specs.Passing.{Passes}
 use Rattle.ltlf.specs.declared.fault.TextFault.{TextFault}
 use Rattle.ltlf.specs.declared.fault.TextFault.TheVariants.{TextEnds}
-use Rattle.ltlf.specs.declared.formula.Unary.{Unary as Unary-op}
-use Rattle.ltlf.specs.declared.formula.Binary.{Binary as Binary-op}
+use Rattle.ltlf.specs.declared.formula.Unary.{Unary as UnaryOp}
+use Rattle.ltlf.specs.declared.formula.Binary.{Binary as BinaryOp}
 use Rattle.ltlf.specs.declared.token.Token.{Token}
 use Rattle.ltlf.specs.declared.token.Token.TheVariants.{Truth, Digit, Unary, Binary}
 
@@ -64,18 +64,18 @@ module _ (bits n : ℕ) (b : Bool) (bs cs : List ℕ) (c : ℕ) (e : bs ≡ c �
       (k : ℕ) → length bs ≤ k → reads k bits b n bs ≡ Ok (record { formula = digit j; terms = m; rest = cs })
   digit_passes j m s a k h = (by_terms (Digit j) (Ok m) s a k h).2
 
-  one_step : (o : Unary-op) (y : Result Read TextFault) (j : ℕ) (m : ℕ) → reads j bits (b || temporal1 o) m cs ≡ y →
+  one_step : (o : UnaryOp) (y : Result Read TextFault) (j : ℕ) (m : ℕ) → reads j bits (b || temporal1 o) m cs ≡ y →
       operands (reads j bits) b m cs (Unary o) ≡ chain y (λ p. Ok (record { formula = one o p.formula; terms = p.terms; rest = p.rest }))
   one_step o y j m i = ap (λ y. chain y (λ p. Ok (record { formula = one o p.formula; terms = p.terms; rest = p.rest }))) i
 
-  pub one_reads : (o : Unary-op) (m : ℕ) (g : Read) → token bits c ≡ Ok (Unary o) → terms_with (Unary o) b n ≡ Ok m →
+  pub one_reads : (o : UnaryOp) (m : ℕ) (g : Read) → token bits c ≡ Ok (Unary o) → terms_with (Unary o) b n ≡ Ok m →
       ((k : ℕ) → length cs ≤ k → reads k bits (b || temporal1 o) m cs ≡ Ok g) →
       (k : ℕ) → length bs ≤ k → reads k bits b n bs ≡ Ok (record { formula = one o g.formula; terms = g.terms; rest = g.rest })
   one_reads o m g s a ih k h =
       let u = by_terms (Unary o) (Ok m) s a k h in
       u.2 ∙ one_step o (Ok g) u.0 m (ih u.0 u.1)
 
-  pub one_passes : (o : Unary-op) (m : ℕ) (r : Result (Unit {0}) TextFault) (n' : ℕ) (after : List ℕ) → token bits c ≡ Ok (Unary o) → terms_with (Unary o) b n ≡ Ok m →
+  pub one_passes : (o : UnaryOp) (m : ℕ) (r : Result (Unit {0}) TextFault) (n' : ℕ) (after : List ℕ) → token bits c ≡ Ok (Unary o) → terms_with (Unary o) b n ≡ Ok m →
       ((k : ℕ) → length cs ≤ k → Passes r n' after (reads k bits (b || temporal1 o) m cs)) →
       (k : ℕ) → length bs ≤ k → Passes r n' after (reads k bits b n bs)
   one_passes o m (Ok x) n' after s a ih k h =
@@ -86,18 +86,18 @@ module _ (bits n : ℕ) (b : Bool) (bs cs : List ℕ) (c : ℕ) (e : bs ≡ c �
       let u = by_terms (Unary o) (Ok m) s a k h in
       u.2 ∙ one_step o _ u.0 m (ih u.0 u.1)
 
-  abbrev second : (o : Binary-op) (j : ℕ) (p : Read) → Result Read TextFault
+  abbrev second : (o : BinaryOp) (j : ℕ) (p : Read) → Result Read TextFault
   second o j p = chain (reads j bits (b || temporal2 o) p.terms p.rest) (λ q. Ok (record { formula = two o p.formula q.formula; terms = q.terms; rest = q.rest }))
 
-  two_step : (o : Binary-op) (y : Result Read TextFault) (j : ℕ) (m : ℕ) → reads j bits (b || temporal2 o) m cs ≡ y →
+  two_step : (o : BinaryOp) (y : Result Read TextFault) (j : ℕ) (m : ℕ) → reads j bits (b || temporal2 o) m cs ≡ y →
       operands (reads j bits) b m cs (Binary o) ≡ chain y (second o j)
   two_step o y j m i = ap (λ y. chain y (second o j)) i
 
-  last_step : (o : Binary-op) (p : Read) (z : Result Read TextFault) (j : ℕ) → reads j bits (b || temporal2 o) p.terms p.rest ≡ z →
+  last_step : (o : BinaryOp) (p : Read) (z : Result Read TextFault) (j : ℕ) → reads j bits (b || temporal2 o) p.terms p.rest ≡ z →
       second o j p ≡ chain z (λ q. Ok (record { formula = two o p.formula q.formula; terms = q.terms; rest = q.rest }))
   last_step o p z j i = ap (λ z. chain z (λ q. Ok (record { formula = two o p.formula q.formula; terms = q.terms; rest = q.rest }))) i
 
-  pub two_reads : (o : Binary-op) (m : ℕ) (g f : Read) → token bits c ≡ Ok (Binary o) → terms_with (Binary o) b n ≡ Ok m →
+  pub two_reads : (o : BinaryOp) (m : ℕ) (g f : Read) → token bits c ≡ Ok (Binary o) → terms_with (Binary o) b n ≡ Ok m →
       ((k : ℕ) → length cs ≤ k → reads k bits (b || temporal2 o) m cs ≡ Ok g) →
       length g.rest ≤ length cs →
       ((k : ℕ) → length g.rest ≤ k → reads k bits (b || temporal2 o) g.terms g.rest ≡ Ok f) →
@@ -107,14 +107,14 @@ module _ (bits n : ℕ) (b : Bool) (bs cs : List ℕ) (c : ℕ) (e : bs ≡ c �
       let room : length g.rest ≤ u.0 = omega (arith, u.1) in
       u.2 ∙ two_step o (Ok g) u.0 m (ih1 u.0 u.1) ∙ last_step o g (Ok f) u.0 (ih2 u.0 room)
 
-  pub two_left : (o : Binary-op) (m : ℕ) (x : TextFault) → token bits c ≡ Ok (Binary o) → terms_with (Binary o) b n ≡ Ok m →
+  pub two_left : (o : BinaryOp) (m : ℕ) (x : TextFault) → token bits c ≡ Ok (Binary o) → terms_with (Binary o) b n ≡ Ok m →
       ((k : ℕ) → length cs ≤ k → reads k bits (b || temporal2 o) m cs ≡ Err x) →
       (k : ℕ) → length bs ≤ k → reads k bits b n bs ≡ Err x
   two_left o m x s a ih k h =
       let u = by_terms (Binary o) (Ok m) s a k h in
       u.2 ∙ two_step o (Err x) u.0 m (ih u.0 u.1)
 
-  pub two_passes : (o : Binary-op) (m n1 : ℕ) (mid : List ℕ) (r : Result (Unit {0}) TextFault) (n2 : ℕ) (after : List ℕ) →
+  pub two_passes : (o : BinaryOp) (m n1 : ℕ) (mid : List ℕ) (r : Result (Unit {0}) TextFault) (n2 : ℕ) (after : List ℕ) →
       token bits c ≡ Ok (Binary o) → terms_with (Binary o) b n ≡ Ok m →
       ((k : ℕ) → length cs ≤ k → (p : Ltl) × (reads k bits (b || temporal2 o) m cs ≡ Ok (record { formula = p; terms = n1; rest = mid }))) →
       length mid ≤ length cs →

@@ -9,8 +9,8 @@ use Rattle.ltlf.specs.Reading.{Read, chain, operands, follows, reads, closed, ch
 use Rattle.ltlf.specs.Laws.{Both, Place, front, temporal, is_term, awaits, behind, Faulty, Fault, Least, Refuses}
 use Rattle.ltlf.specs.declared.fault.TextFault.{TextFault}
 use Rattle.ltlf.specs.declared.fault.TextFault.TheVariants.{Empty, TooLong, UnknownByte, DigitTooLarge, TextEnds, ByteAfterEnd, NotRule}
-use Rattle.ltlf.specs.declared.formula.Unary.{Unary as Unary-op}
-use Rattle.ltlf.specs.declared.formula.Binary.{Binary as Binary-op}
+use Rattle.ltlf.specs.declared.formula.Unary.{Unary as UnaryOp}
+use Rattle.ltlf.specs.declared.formula.Binary.{Binary as BinaryOp}
 use Rattle.ltlf.specs.declared.token.Token.{Token}
 use Rattle.ltlf.specs.declared.token.Token.TheVariants.{Truth, Digit, Unary, Binary}
 use Rattle.ltlf.proofs.Truths.{nope}
@@ -53,18 +53,18 @@ module _ (k bits n : ℕ) (b : Bool) (c : ℕ) (cs : List ℕ) (short : length c
   abbrev Passed : Result Place TextFault → List Bool → Type 0
   Passed x st = scan bits (c ∷ cs) (at (b ∷ st) n) ≡ onward x (scan bits cs)
 
-  one_rest : (o : Unary-op) (d : Bool) (m : ℕ) → ((st : List Bool) → Passed (Ok (at (d ∷ st) m)) st) → (y : Result Read TextFault) → Agrees bits d m cs y →
+  one_rest : (o : UnaryOp) (d : Bool) (m : ℕ) → ((st : List Bool) → Passed (Ok (at (d ∷ st) m)) st) → (y : Result Read TextFault) → Agrees bits d m cs y →
       Agrees bits b n (c ∷ cs) (chain y (λ p. Ok (record { formula = one o p.formula; terms = p.terms; rest = p.rest })))
   one_rest o d m t (Ok g) i = λ st. t st ∙ i st
   one_rest o d m t (Err e) i = λ st. t st ∙ i st
 
-  two_last : (o : Binary-op) (d : Bool) (g : Read) → ((st : List Bool) → scan bits (c ∷ cs) (at (b ∷ st) n) ≡ scan bits g.rest (at (d ∷ st) g.terms)) →
+  two_last : (o : BinaryOp) (d : Bool) (g : Read) → ((st : List Bool) → scan bits (c ∷ cs) (at (b ∷ st) n) ≡ scan bits g.rest (at (d ∷ st) g.terms)) →
       (z : Result Read TextFault) → Agrees bits d g.terms g.rest z →
       Agrees bits b n (c ∷ cs) (chain z (λ q. Ok (record { formula = two o g.formula q.formula; terms = q.terms; rest = q.rest })))
   two_last o d g t (Ok f) i = λ st. t st ∙ i st
   two_last o d g t (Err e) i = λ st. t st ∙ i st
 
-  two_rest : (o : Binary-op) (d : Bool) (m : ℕ) → ((st : List Bool) → Passed (Ok (at (d ∷ d ∷ st) m)) st) → (y : Result Read TextFault) → reads k bits d m cs ≡ y → Agrees bits d m cs y →
+  two_rest : (o : BinaryOp) (d : Bool) (m : ℕ) → ((st : List Bool) → Passed (Ok (at (d ∷ d ∷ st) m)) st) → (y : Result Read TextFault) → reads k bits d m cs ≡ y → Agrees bits d m cs y →
       Agrees bits b n (c ∷ cs) (chain y (λ p. chain (reads k bits d p.terms p.rest) (λ q. Ok (record { formula = two o p.formula q.formula; terms = q.terms; rest = q.rest }))))
   two_rest o d m t (Ok g) e i =
       let l : length cs ≡ length (prefix g.formula) + length g.rest = ap length (back k bits m d cs g e).text ∙ length-append (prefix g.formula) g.rest in

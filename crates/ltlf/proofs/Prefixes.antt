@@ -8,9 +8,9 @@ use Rattle.ltlf.specs.Reading.{Read, chain, operands, follows, reads, closed, ou
 use Rattle.ltlf.specs.Laws.{TextOf, ReadsAs, Accepts}
 use Rattle.ltlf.specs.declared.fault.TextFault.{TextFault}
 use Rattle.ltlf.specs.declared.fault.TextFault.TheVariants.{Empty, TooLong, DigitTooLarge}
-use Rattle.ltlf.specs.declared.formula.Unary.{Unary as Unary-op}
+use Rattle.ltlf.specs.declared.formula.Unary.{Unary as UnaryOp}
 use Rattle.ltlf.specs.declared.formula.Unary.TheVariants.{Not, Next, Eventually, Always}
-use Rattle.ltlf.specs.declared.formula.Binary.{Binary as Binary-op}
+use Rattle.ltlf.specs.declared.formula.Binary.{Binary as BinaryOp}
 use Rattle.ltlf.specs.declared.formula.Binary.TheVariants.{And, Or, Until}
 use Rattle.ltlf.specs.declared.token.Token.{Token}
 use Rattle.ltlf.specs.declared.token.Token.TheVariants.{Truth, Digit, Unary, Binary}
@@ -30,13 +30,13 @@ chain_ok (Err e) f g h = never h
 
 -- ---- from a byte to its token and back
 
-token_one : (bits c : ℕ) (o : Unary-op) → token bits c ≡ Ok (Unary o) → c ≡ byte1 o
+token_one : (bits c : ℕ) (o : UnaryOp) → token bits c ≡ Ok (Unary o) → c ≡ byte1 o
 token_one bits c Not h = grind (arith, nat_tests)
 token_one bits c Next h = grind (arith, nat_tests)
 token_one bits c Eventually h = grind (arith, nat_tests)
 token_one bits c Always h = grind (arith, nat_tests)
 
-token_two : (bits c : ℕ) (o : Binary-op) → token bits c ≡ Ok (Binary o) → c ≡ byte2 o
+token_two : (bits c : ℕ) (o : BinaryOp) → token bits c ≡ Ok (Binary o) → c ≡ byte2 o
 token_two bits c And h = grind (arith, nat_tests)
 token_two bits c Or h = grind (arith, nat_tests)
 token_two bits c Until h = grind (arith, nat_tests)
@@ -48,10 +48,10 @@ token_truth bits c false h = grind (arith, nat_tests)
 token_digit : (bits c j : ℕ) → token bits c ≡ Ok (Digit j) → (c ≡ 48 + j) × ((ltb j 10 && ltb j bits) ≡ true)
 token_digit bits c j h = (grind (arith, nat_tests), grind (arith, nat_tests))
 
-one_token : (bits : ℕ) (o : Unary-op) → token bits (byte1 o) ≡ Ok (Unary o)
+one_token : (bits : ℕ) (o : UnaryOp) → token bits (byte1 o) ≡ Ok (Unary o)
 one_token bits o = ap (known bits) (kind_one o)
 
-two_token : (bits : ℕ) (o : Binary-op) → token bits (byte2 o) ≡ Ok (Binary o)
+two_token : (bits : ℕ) (o : BinaryOp) → token bits (byte2 o) ≡ Ok (Binary o)
 two_token bits o = ap (known bits) (kind_two o)
 
 truth_token : (bits : ℕ) (v : Bool) → token bits (cond v 116 102) ≡ Ok (Truth v)

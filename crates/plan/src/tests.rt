@@ -17,7 +17,7 @@ fn prints(rt: &(impl Abort + AllocGlobal), job: &[u8], lines: &str) -> Result<()
 
 // A duty with a right that can be kept open: two rounds, the first without push.
 #[test]
-fn kept_open(rt: HostRuntime) -> Result<(), Fail> {
+fn survey(rt: HostRuntime) -> Result<(), Fail> {
     let job = [
         68, 70, 1, 0, 1, 1, 6, 0, 0, 2, 0, 1, 3, 1, 1, 5, 1, 4, 2, 5, 4, 5, 4, 4, 5, 5,
     ];

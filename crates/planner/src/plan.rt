@@ -4,7 +4,7 @@ ghost use Rattle.automata.specs.Arena.{arena_of};
 ghost use Rattle.games.specs.declared.verdict.Verdict.TheVariants.{Planned, Unplayable};
 ghost use Rattle.games.specs.Meant.{Meant};
 ghost use Rattle.games.specs.Tables.{lone};
-ghost use Rattle.games.specs.Verdicts.{verdict as verdict-on};
+ghost use Rattle.games.specs.Verdicts.{verdict as verdict_on};
 ghost use Rattle.sheets.specs.Encoding.{sheet_length};
 ghost use Rattle.sheets.specs.Laws.{OpensTo};
 ghost use Rattle.planner.specs.ArenaTables.{arena_tables, arena_grounds};
@@ -50,7 +50,7 @@ impl Planner {
 
     // Writes the sheet of the verdict on the arena that the planner holds.
     fn write(&self, verdict: Verdict, buffer: &mut [u8]) -> Result<(), WriteFault>
-        requires { verdict ≡ verdict-on (planner_arena self.now) }
+        requires { verdict ≡ verdict_on (planner_arena self.now) }
         ensures answer { result ≡ written_answer (sheet_for (planner_arena self.now) verdict) buffer.old }
         ensures buffer { buffer.new ≡ written_buffer (sheet_for (planner_arena self.now) verdict) buffer.old }
     {
