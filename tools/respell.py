@@ -22,6 +22,7 @@ RESERVED = set("data record deriving module where use mod pub package open as un
 
 WORD = re.compile(r"[^\s(){}\[\].,;:«»∣|λ`\"'@]+'*")
 HEAD = re.compile(r"^(?:(?:abbrev|unfoldable|pub|mutual|data|record|ruleset) )*([^\s:(){},;.«»]+)\s*(?:[({].*)?:(?!=)")
+INNER = re.compile(r"^\s+(?:(?:abbrev|unfoldable|pub|data|record) )*([^\s:(){}.=]+) : ")
 KEYS = ("use ", "--", "pub mod", "mod ", "pub use", "where", "infix", "module", "unfolding")
 
 
@@ -57,9 +58,9 @@ def declared(text, is_goal_file):
         elif block and re.match(r"^  (?:pub )?[^\s:(){}]+ :", line):
             m = re.match(r"^  (?:pub )?([^\s:(){}]+) :", line)
             names.setdefault(m[1], False)
-        elif re.match(r"^\s+(?:pub )?[^\s:(){}.=]+ : ", line) and not body.startswith(("let ", "λ")):
+        elif (m := INNER.match(line)) and not body.startswith(("let ", "λ")):
             # a lemma of a section, or beside another, below `where`
-            names.setdefault(re.match(r"^\s+(?:pub )?([^\s:(){}.=]+) : ", line)[1], False)
+            names.setdefault(m[1], m[1][0].isupper() and "Type 0" in line)
     return names
 
 

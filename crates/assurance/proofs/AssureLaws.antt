@@ -1,11 +1,9 @@
 -- What a verdict that planning answered is known to be.
-use Rattle.std.proofs.Common.{◌≡◌, ℕ, ◌≤◌, Bool, true, false, cond, leb, List, Some, Ok, Err, Option, Result, sym, refl, ap, ◌∙◌, subst, arith}
+use Rattle.std.proofs.Common.{◌≡◌, ℕ, ◌≤◌, Bool, true, false, cond, leb, List, Some, Ok, Err, Result, refl, arith}
 use Rattle.std.proofs.lemmas.Bool.{leb-true}
 use Rattle.automata.specs.Arena.{Arena}
-use Rattle.automata.specs.Lawful.{LawfulArena}
 use Rattle.games.specs.Verdicts.{verdict}
 use Rattle.games.specs.declared.verdict.Verdict.{Verdict}
-use Rattle.games.specs.declared.verdict.Verdict.TheVariants.{Planned}
 use Rattle.sheets.specs.Encoding.{sheet_length}
 use Rattle.sheets.specs.Format.{tables_of}
 use Rattle.sheets.specs.Laws.{OpensTo}
@@ -13,7 +11,6 @@ use Rattle.planner.specs.ArenaTables.{arena_tables}
 use Rattle.planner.specs.Planned.{planned_answer}
 use Rattle.planner.specs.declared.fault.PlanFault.{PlanFault}
 use Rattle.planner.specs.declared.fault.PlanFault.TheVariants.{TooManyStates, BufferTooShort}
-use Rattle.drives.specs.declared.refusal.Refusal.{Refusal}
 use Rattle.assurance.specs.declared.calls.Entry.{Entry}
 use Rattle.assurance.specs.declared.drive.Drive.{Drive}
 use Rattle.assurance.specs.Conducted.{WellConducted}

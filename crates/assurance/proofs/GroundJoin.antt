@@ -1,17 +1,17 @@
 -- The ground that follows a written ground sheet is the arena's.
-use Rattle.std.proofs.Common.{◌≡◌, ℕ, zero, suc, ◌^◌, ◌<◌, ◌≤◌, Bool, true, false, cond, not, T, eqb, ltb, leb, ◌⊎◌, List, [], ◌∷◌, Some, None, Option, sym, refl, ap, ◌∙◌, subst, inl, inr, arith}
+use Rattle.std.proofs.Common.{◌≡◌, ℕ, zero, suc, ◌^◌, ◌<◌, ◌≤◌, Bool, true, false, cond, not, eqb, ltb, leb, List, [], ◌∷◌, Some, None, Option, sym, refl, ap, ◌∙◌, subst, arith}
 use native.Mathlib.Decide.{dec_lt}
 use Rattle.std.proofs.lemmas.Bool.{cond-true, le-leb, ltb-true}
 use Rattle.ranges.specs.Ranges.{least}
 use Rattle.automata.specs.Steps.{Inside, onward}
 use Rattle.automata.specs.Arena.{Arena}
 use Rattle.automata.specs.Lawful.{LawfulArena}
-use Rattle.games.specs.Plays.{Ground, after, led, Below, LawfulGround, Plan, later, Play, ends, goes, AllOpen, FulfilsAgainst}
+use Rattle.games.specs.Plays.{Ground, after, led, Below, LawfulGround, Plan, later, Play, ends, goes, FulfilsAgainst}
 use Rattle.games.specs.GroundColumns.{ground_byte}
 use Rattle.games.specs.Following.{follows_by, followed, told_column, told_turned, followed_told}
 use Rattle.games.specs.Meant.{Meant, IsUnplayable}
 use Rattle.planner.specs.ArenaTables.{arena_grounds}
-use Rattle.planner.specs.GroundReading.{ground_reading, ReadsBack}
+use Rattle.planner.specs.GroundReading.{ReadsBack}
 use Rattle.assurance.specs.WrittenGround.{byte_in, column_at, turned_by, follows_bytes, written_ground}
 use Rattle.assurance.specs.Assured.{GroundHolds}
 

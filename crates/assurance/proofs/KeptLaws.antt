@@ -1,5 +1,5 @@
 -- What every call keeps, and why what is promised follows.
-use Rattle.std.proofs.Common.{◌≡◌, ℕ, zero, suc, ◌^◌, ◌<◌, ◌≤◌, Bool, true, false, T, eqb, ltb, leb, Some, None, Option, sym, refl, subst, arith, le→leb, eqb→eq, lt→ltb, leb→le}
+use Rattle.std.proofs.Common.{◌≡◌, ℕ, zero, suc, ◌^◌, ◌<◌, ◌≤◌, Bool, true, false, T, eqb, leb, Some, None, Option, sym, refl, subst, arith, le→leb, eqb→eq, lt→ltb, leb→le}
 use Rattle.std.proofs.lemmas.Bool.{eq-eqb}
 use Rattle.ranges.proofs.RangeLaws.{T_true, and_r, and_mk, not_at}
 use Rattle.automata.specs.Steps.{Inside, onward}

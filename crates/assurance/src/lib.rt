@@ -1,4 +1,6 @@
 // What is promised of plans, sheets and drives together.
+#![tactic(auto)]
+
 pub mod assure;
 pub mod calls;
 pub mod conduct;

@@ -1,11 +1,11 @@
 -- What automata and arenas keep, as facts about their answers, and that held automata and pairs keep
 -- it too.
-use Rattle.std.proofs.Common.{◌≡◌, ℕ, ◌+◌, ◌*◌, ◌/◌, ◌%◌, ◌^◌, ◌<◌, ◌≤◌, Bool, true, false, cond, ◌&&◌, eqb, ltb, leb, Some, None, Option, sym, refl, ap, ◌∙◌, subst, arith}
+use Rattle.std.proofs.Common.{◌≡◌, ℕ, ◌+◌, ◌*◌, ◌/◌, ◌%◌, ◌^◌, ◌<◌, ◌≤◌, Bool, true, false, cond, ◌&&◌, eqb, ltb, leb, Some, None, Option, refl, ap, ◌∙◌, arith}
 use Rattle.std.proofs.lemmas.Bool.{leb-true, ltb-true, and_parts, le-ltb, ne_eqb}
 use Rattle.automata.specs.Steps.{Inside, onward}
 use Rattle.automata.specs.Arena.{Arena}
 use Rattle.automata.specs.Machine.{Machine, machine_in}
-use Rattle.automata.specs.Layers.{held, pair, both, duty_fits, with_duty, right_fits, with_right, more_rights, right_marks, duty_arena, right_arena}
+use Rattle.automata.specs.Layers.{held, pair, both, duty_fits, with_duty, right_fits, with_right, duty_arena, right_arena}
 use Rattle.automata.specs.PairLaws.{pair_sized, pair_begins, pair_enters, pair_outside}
 
 -- the laws of an automaton

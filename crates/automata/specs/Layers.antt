@@ -1,5 +1,5 @@
 -- Layers over automata: held, and the pairs that make a job's arena.
-use Rattle.std.specs.Prelude.{ℕ, ◌+◌, ◌*◌, ◌/◌, ◌%◌, Bool, true, false, cond, ◌&&◌, leb, Some, None, Option, ◌==◌, nat_le, nat_lt}
+use Rattle.std.specs.Prelude.{ℕ, ◌+◌, ◌*◌, ◌/◌, ◌%◌, Bool, false, cond, ◌&&◌, leb, Some, None, Option, ◌==◌, nat_le, nat_lt}
 use Rattle.automata.specs.Steps.{onward}
 use Rattle.automata.specs.Arena.{Arena}
 use Rattle.automata.specs.Machine.{Machine, machine_in}

@@ -1,8 +1,8 @@
 -- A pair keeps what automata keep.
-use Rattle.std.specs.Prelude.{◌≡◌, ℕ, ◌+◌, ◌*◌, ◌/◌, ◌%◌, ◌<◌, ◌≤◌, Bool, true, false, cond, ◌&&◌, ltb, leb, Some, None, Option, refl}
+use Rattle.std.specs.Prelude.{◌≡◌, ℕ, ◌+◌, ◌*◌, ◌/◌, ◌<◌, ◌≤◌, Bool, true, false, cond, Some, None, Option, refl}
 use Rattle.std.proofs.Common.{sym, ap, subst, mul_comm, mul-pos, le-mul_of_pos_right, arith}
 use Rattle.std.proofs.lemmas.Nat.{mul-add-lt, le-div}
-use Rattle.automata.specs.Steps.{Inside, onward}
+use Rattle.automata.specs.Steps.{Inside}
 use Rattle.automata.specs.Layers.{both}
 
 -- the place p · m + r of a pair is below n · m

@@ -1,5 +1,5 @@
 -- Steps: a state, or none.
-use Rattle.std.specs.Prelude.{ℕ, ◌<◌, Bool, cond, Some, None, Option, nat_lt}
+use Rattle.std.specs.Prelude.{ℕ, ◌<◌, cond, Some, None, Option, nat_lt}
 
 -- a step that is a state is one below n
 abbrev pub Inside : ℕ → Option ℕ → Type 0

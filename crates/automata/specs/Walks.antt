@@ -1,5 +1,5 @@
 -- Where the steps of an automaton lead over a word, and what the layers make of it.
-use Rattle.std.specs.Prelude.{◌≡◌, ℕ, ◌+◌, ◌*◌, ◌/◌, ◌≤◌, Bool, true, List, [], ◌∷◌, length, take, Some, None, Decides, Option}
+use Rattle.std.specs.Prelude.{◌≡◌, ℕ, ◌+◌, ◌*◌, ◌/◌, ◌≤◌, true, List, [], ◌∷◌, length, take, Some, None, Decides, Option}
 use Rattle.automata.specs.Steps.{onward}
 use Rattle.automata.specs.Arena.{Arena}
 use Rattle.automata.specs.Machine.{Machine, machine_in}

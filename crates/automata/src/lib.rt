@@ -1,4 +1,6 @@
 // Automata and arenas by their answers, and the arena of a flat job.
+#![tactic(auto)]
+
 pub mod arena;
 pub mod automaton;
 pub mod bits;

@@ -2,6 +2,8 @@
 // drive, with the lines that the program prints for it. An independent program made them, but for
 // those whose name says that they are written by hand. A line is printed for each vector that comes
 // out otherwise, and for each kind a line with the counts.
+#![tactic(auto)]
+
 use games::solver::Solver;
 use std::alloc::Global;
 use std::fs;

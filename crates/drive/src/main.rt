@@ -1,5 +1,7 @@
 // A drive on standard input: a line of numbers is a sheet, any other line is a call. Each line is
 // answered by one line, and a sheet that begins a drive by two.
+#![tactic(auto)]
+
 use drives::begin;
 use drives::between::Between;
 use drives::ended::Ended;

@@ -1,5 +1,5 @@
 -- A permitted command of an opened sheet has a step.
-use Rattle.std.proofs.Common.{◌≡◌, ℕ, true, is_some, Some, None, Option, sym, refl, ◌∙◌}
+use Rattle.std.proofs.Common.{◌≡◌, ℕ, true, is_some, Some, None, Option, refl}
 use Rattle.sheets.specs.Format.{tables_of}
 use Rattle.sheets.specs.Opened.{bytes_of}
 use Rattle.sheets.specs.declared.Sheet.{Sheet}

@@ -1,5 +1,7 @@
 // The drive: it is moved from call to call, between rounds, waiting for a command, and ended. It holds
 // plain numbers, and every call but the report is lent the opened sheet.
+#![tactic(auto)]
+
 ghost use Rattle.std.specs.Prelude.{◌≡◌};
 ghost use Rattle.sheets.specs.Format.{tables_of};
 ghost use Rattle.sheets.specs.Opened.{bytes_of};

@@ -1,12 +1,12 @@
 -- Broken states, lawful readings and lawful grounds.
-use Rattle.std.proofs.Common.{◌≡◌, ℕ, zero, suc, ◌^◌, ◌<◌, ◌≤◌, Bool, true, false, not, ◌&&◌, ◌||◌, T, ◌⊎◌, List, [], ◌∷◌, Some, None, Option, sym, refl, ap, ◌∙◌, subst, inl, inr, arith, pow_pos}
+use Rattle.std.proofs.Common.{◌≡◌, ℕ, zero, suc, ◌^◌, ◌<◌, Bool, true, false, T, ◌⊎◌, [], ◌∷◌, Some, None, Option, sym, refl, ap, ◌∙◌, inl, inr, arith, pow_pos}
 use mathlib.Core.Path.{fun_ext}
 use native.Mathlib.Decide.{dec_lt}
-use Rattle.ranges.specs.Ranges.{all, any, least}
+use Rattle.ranges.specs.Ranges.{least}
 use Rattle.automata.specs.Steps.{onward}
 use Rattle.automata.specs.Arena.{Arena}
 use Rattle.automata.specs.Lawful.{LawfulArena}
-use Rattle.games.specs.Plays.{Ground, after, led, Below, LawfulGround}
+use Rattle.games.specs.Plays.{Ground, after, led, LawfulGround}
 use Rattle.games.specs.Search.{stage}
 use Rattle.games.specs.Regions.{breaks, nowhere, broken, unbroken, lawful}
 use Rattle.ranges.proofs.RangeLaws.{T_true, and_r, and_mk, or_case, not_mk, not_at, all_at, all_mk, any_at, any_mk, not_all, least_passes}

@@ -1,17 +1,17 @@
 -- A verdict means what it says of grounds and plans.
-use Rattle.std.proofs.Common.{◌≡◌, ℕ, zero, suc, ◌^◌, ◌<◌, ◌≤◌, Bool, true, false, cond, not, T, eqb, ltb, ◌⊎◌, ◌↔◌, List, [], ◌∷◌, Option, sym, refl, ap, ◌∙◌, subst, inl, inr, arith, pow_mono}
+use Rattle.std.proofs.Common.{◌≡◌, ℕ, zero, suc, ◌^◌, ◌≤◌, Bool, false, cond, not, T, eqb, ltb, ◌⊎◌, ◌↔◌, List, [], ◌∷◌, Option, sym, refl, ap, ◌∙◌, subst, inl, inr, arith, pow_mono}
 use mathlib.Core.Path.{fun_ext}
 use Rattle.std.proofs.lemmas.Bool.{eq-eqb, ne_eqb, cond-true, cond-false}
 use Rattle.ranges.specs.Ranges.{least}
 use Rattle.automata.specs.Steps.{onward}
 use Rattle.automata.specs.Arena.{Arena}
 use Rattle.automata.specs.Lawful.{LawfulArena}
-use Rattle.ranges.proofs.RangeLaws.{T-dec, T_true, T-eq, T_false, and_r, and_mk, not_mk, not_at}
+use Rattle.ranges.proofs.RangeLaws.{T-dec, T-eq, T_false, and_r, and_mk, not_mk, not_at}
 use Rattle.games.specs.declared.verdict.Verdict.TheVariants.{Groundless, Planned, Unplayable}
 use Rattle.games.specs.Regions.{broken, unbroken, lawful, ranked, rank}
-use Rattle.games.specs.GroundColumns.{kept, holds_off, ground_byte}
+use Rattle.games.specs.GroundColumns.{kept, ground_byte}
 use Rattle.games.specs.Verdicts.{verdict, lacking}
-use Rattle.games.specs.Plays.{Ground, Below, LawfulGround, Plan, Fulfils}
+use Rattle.games.specs.Plays.{Below, Plan, Fulfils}
 use Rattle.games.specs.Following.{turned, follows_by, follows, followed, told_column, told_turned, followed_told}
 use Rattle.games.specs.Meant.{Meant, IsUnplayable, IsPlanned, SomeLawfulGround}
 use Rattle.games.proofs.GroundLaws.{ground_unbroken, ground_lawful, safe, safe_lawful, first_then, lawful_first}

@@ -2,7 +2,7 @@
 use Rattle.std.proofs.Common.{◌≡◌, ℕ, ◌+◌, ◌<◌, ◌≤◌, Bool, true, false, cond, ◌&&◌, ◌||◌, eqb, ltb, leb, List, length, get_or, set, sym, refl, ap, ◌∙◌, subst, ⊎_elim, arith, length-set}
 use mathlib.Core.Path.{fun_ext}
 use Rattle.std.proofs.lemmas.List.{get_or-set_same, get_or-set_other}
-use Rattle.std.proofs.lemmas.Bool.{and_parts, eqb-true, lt-leb, cond-true, cond-false, cases_lt, cases_Bool, cases_eq, or_parts}
+use Rattle.std.proofs.lemmas.Bool.{and_parts, eqb-true, lt-leb, cond-true, cond-false, cases_lt, cases_Bool, cases_eq}
 use Rattle.games.specs.Search.{ranked_by}
 use Rattle.games.specs.Passes.{passed_at}
 

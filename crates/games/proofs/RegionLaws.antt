@@ -1,13 +1,13 @@
 -- The regions of an arena, from lists of ranks.
-use Rattle.std.proofs.Common.{◌≡◌, ℕ, zero, suc, ◌+◌, ◌*◌, ◌^◌, ◌<◌, ◌≤◌, Bool, true, false, not, ◌&&◌, ◌||◌, T, eqb, ltb, ◌⊎◌, List, get_or, sym, refl, ap, ◌∙◌, ap₂, subst₂, inl, inr, arith, pow_pos}
+use Rattle.std.proofs.Common.{◌≡◌, ℕ, zero, suc, ◌+◌, ◌*◌, ◌^◌, ◌<◌, ◌≤◌, Bool, true, false, not, ◌&&◌, T, eqb, ltb, ◌⊎◌, List, get_or, sym, refl, ap, ◌∙◌, ap₂, subst₂, inl, inr, arith, pow_pos}
 use mathlib.Core.Path.{fun_ext}
 use Rattle.std.proofs.lemmas.Bool.{cases_lt, le-ltb, lt-ltb, and_left, eq-eqb, ne_eqb}
-use Rattle.ranges.specs.Ranges.{all, any, least}
+use Rattle.ranges.specs.Ranges.{all}
 use Rattle.automata.specs.Arena.{Arena}
 use Rattle.automata.specs.Lawful.{LawfulArena}
 use Rattle.ranges.proofs.RangeLaws.{T-eq, T_true, false_T, and_l, or_case, all_mk, any_mk, least_bound}
 use Rattle.games.specs.Search.{stage, rank_of, Ranks}
-use Rattle.games.specs.Regions.{nowhere, breaks, broken, unbroken, lawful_by, forces_by, forces, right_column, fence, stages, ranked, rank}
+use Rattle.games.specs.Regions.{nowhere, breaks, broken, unbroken, lawful_by, forces_by, forces, right_column, fence, ranked, rank}
 use Rattle.games.specs.Found.{BrokenFound, ColumnFound, RightsFound}
 use Rattle.games.proofs.StageLaws.{stage_up, rank_ranked, rank_unranked}
 

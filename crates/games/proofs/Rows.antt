@@ -1,12 +1,12 @@
 -- The ranks of a staged search, stage by stage, as a list has them.
-use Rattle.std.proofs.Common.{◌≡◌, ℕ, zero, suc, ◌+◌, ◌<◌, ◌≤◌, Bool, true, false, cond, ◌&&◌, ◌||◌, T, eqb, ltb, leb, ◌⊎◌, List, length, get_or, sym, refl, ap, ◌∙◌, subst, inl, inr, add-one, arith}
+use Rattle.std.proofs.Common.{◌≡◌, ℕ, zero, suc, ◌+◌, ◌<◌, ◌≤◌, Bool, true, false, cond, ◌&&◌, T, eqb, leb, ◌⊎◌, List, length, get_or, sym, refl, ap, ◌∙◌, subst, inl, inr, add-one, arith}
 use native.Mathlib.Decide.{dec_lt}
 use Rattle.std.proofs.lemmas.Bool.{and_left, and_from, eq-eqb, ne_eqb, lt-ltb, cond-true, cond-false}
 use Rattle.ranges.specs.Ranges.{least}
-use Rattle.ranges.proofs.RangeLaws.{T-dec, T_true, T-eq, T_false, false_T, or_l, or_r, or_case, least_bound}
-use Rattle.games.specs.Search.{stage, rank_of, ranked_by, Within, Monotone, Ranks, Settled}
+use Rattle.ranges.proofs.RangeLaws.{T-dec, T_true, T-eq, T_false, false_T, or_r, or_case, least_bound}
+use Rattle.games.specs.Search.{stage, rank_of, ranked_by, Within, Monotone, Ranks}
 use Rattle.games.specs.Passes.{passed_at, Passed}
-use Rattle.games.proofs.StageLaws.{closed, closed_next, stage_up, rank_ranked, rank_unranked, rank_tells, rank_stays, rank_comes, rank_waits}
+use Rattle.games.proofs.StageLaws.{closed_next, rank_ranked, rank_unranked, rank_tells, rank_stays, rank_comes, rank_waits}
 
 module _ (n : ℕ) (first : ℕ → Bool) (joins : (ℕ → Bool) → ℕ → Bool) where
   abbrev S : ℕ → ℕ → Bool

@@ -1,7 +1,7 @@
 -- A staged search with a monotone rule settles.
-use Rattle.std.proofs.Common.{◌≡◌, ℕ, zero, suc, ◌<◌, ◌≤◌, Bool, true, false, ◌&&◌, ◌||◌, T, ◌⊎◌, refl, inl, inr, arith}
+use Rattle.std.proofs.Common.{◌≡◌, ℕ, zero, suc, ◌<◌, Bool, true, false, ◌&&◌, ◌||◌, T, ◌⊎◌, refl, inl, inr, arith}
 use Rattle.automata.specs.Arena.{Arena}
-use Rattle.ranges.proofs.RangeLaws.{T-dec, T_true, false_T, or_l, or_r, or_case}
+use Rattle.ranges.proofs.RangeLaws.{or_l, or_r, or_case}
 use Rattle.games.specs.Search.{stage, Within, Monotone, StepsInside, Settled}
 use Rattle.games.specs.Settled.{SettledRegions}
 use Rattle.games.specs.Regions.{nowhere, breaks, unbroken, fence, lawful, forces}

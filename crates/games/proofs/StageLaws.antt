@@ -1,11 +1,11 @@
 -- A staged search over n states with a monotone joining rule: stages grow, and after n of them none joins.
-use Rattle.std.proofs.Common.{◌≡◌, ℕ, zero, suc, ◌+◌, ◌<◌, ◌≤◌, Bool, true, false, not, ◌&&◌, ◌||◌, T, leb, ◌⊎◌, sym, refl, ap, ◌∙◌, subst, inl, inr, arith}
+use Rattle.std.proofs.Common.{◌≡◌, ℕ, zero, suc, ◌<◌, ◌≤◌, Bool, true, false, not, ◌||◌, T, leb, ◌⊎◌, sym, refl, ◌∙◌, subst, inl, inr, arith}
 use native.Mathlib.Decide.{dec_le, dec_lt}
 use Rattle.std.proofs.lemmas.Bool.{le-leb, lt-leb}
 use Rattle.ranges.specs.Ranges.{all, least}
-use Rattle.games.specs.Search.{Within, Monotone, Settled, stage, rank_of}
-use Rattle.ranges.proofs.RangeLaws.{T-dec, T_true, T-eq, T_false, false_T, or_l, or_r, or_case, not_mk, not_at, all_at, not_all, below_suc, least_passes, least_bound, least_holds, least_before, least_is, least_none}
-use Rattle.games.proofs.CountLaws.{count, count_le, count_more, count_full}
+use Rattle.games.specs.Search.{Within, Monotone, stage, rank_of}
+use Rattle.ranges.proofs.RangeLaws.{T-dec, T_true, T-eq, T_false, false_T, or_l, or_r, or_case, not_mk, not_at, all_at, not_all, least_passes, least_bound, least_holds, least_before, least_is, least_none}
+use Rattle.games.proofs.CountLaws.{count, count_more, count_full}
 
 module _ (n : ℕ) (first : ℕ → Bool) (joins : (ℕ → Bool) → ℕ → Bool) where
   pub stage_up : (r r' q : ℕ) → r ≤ r' → T (stage first joins r q) → T (stage first joins r' q)

@@ -1,5 +1,5 @@
 -- The ground that follows a ground sheet's columns.
-use Rattle.std.specs.Prelude.{ℕ, zero, suc, cond, not, List, [], ◌∷◌, ◌==◌, nat_lt}
+use Rattle.std.specs.Prelude.{ℕ, zero, suc, cond, not, [], ◌∷◌, ◌==◌, nat_lt}
 use Rattle.ranges.specs.Ranges.{least}
 use Rattle.automata.specs.Steps.{onward}
 use Rattle.automata.specs.Arena.{Arena}

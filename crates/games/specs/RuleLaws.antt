@@ -1,7 +1,7 @@
 -- The joining rules never lose a state when their set grows.
-use Rattle.std.specs.Prelude.{◌≡◌, ℕ, ◌^◌, ◌<◌, Bool, true, false, not, ◌&&◌, ◌||◌, T, ◌⊎◌, Some, None, Option, refl}
+use Rattle.std.specs.Prelude.{ℕ, ◌^◌, Bool, true, false, not, ◌&&◌, ◌||◌, T, ◌⊎◌, Some, None, Option}
 use Rattle.std.proofs.Common.{inl, inr}
-use Rattle.ranges.specs.Ranges.{all, any}
+use Rattle.ranges.specs.Ranges.{any}
 use Rattle.automata.specs.Steps.{Inside, onward}
 use Rattle.automata.specs.Arena.{Arena}
 use Rattle.ranges.proofs.RangeLaws.{and_l, and_r, and_mk, or_l, or_r, or_case, all_at, all_mk, any_at, any_mk}

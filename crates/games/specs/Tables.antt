@@ -1,5 +1,5 @@
 -- The arena that a table holds.
-use Rattle.std.specs.Prelude.{ℕ, ◌+◌, ◌-◌, ◌*◌, ◌^◌, Bool, true, false, cond, ◌&&◌, List, None, vec_items, Option, nat_le, nat_lt, slice_index_or}
+use Rattle.std.specs.Prelude.{ℕ, ◌+◌, ◌-◌, ◌*◌, ◌^◌, Bool, false, cond, ◌&&◌, List, None, vec_items, Option, nat_le, nat_lt, slice_index_or}
 use Rattle.automata.specs.Steps.{named, onward}
 use Rattle.automata.specs.Arena.{Arena}
 use Rattle.games.specs.declared.table.Table.{Table}

@@ -1,5 +1,5 @@
 -- The verdict on an arena, with its number.
-use Rattle.std.specs.Prelude.{◌≡◌, ℕ, zero, suc, Bool, true, false, cond, not, Ok, Err, Result, nat_le, nat_lt}
+use Rattle.std.specs.Prelude.{ℕ, zero, suc, cond, not, Ok, Err, Result, nat_le, nat_lt}
 use Rattle.ranges.specs.Ranges.{least}
 use Rattle.automata.specs.Arena.{Arena}
 use Rattle.games.specs.Regions.{broken, right_column, ranked, rank}

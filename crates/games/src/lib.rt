@@ -1,4 +1,6 @@
 // What the ground and the plans can force in an arena: one staged search, and what it finds.
+#![tactic(auto)]
+
 mod answers;
 mod copy;
 mod grounds;

@@ -1,6 +1,8 @@
 // Tries to beat an unplayable job: the first line of standard input is a job's bytes as decimal numbers,
 // and each line after it is a command. Prints the verdict's line, and where it is unplayable the ground's
 // reading before any command and after each, as the written ground sheet tells it.
+#![tactic(auto)]
+
 use anyhow::anyhow;
 use assurance::assure::assure;
 use assurance::outcome::Outcome;

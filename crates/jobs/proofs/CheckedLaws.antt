@@ -1,13 +1,13 @@
 -- What a job that is not refused is known to be.
-use Rattle.std.proofs.Common.{◌≡◌, ℕ, zero, suc, ◌+◌, ◌<◌, ◌≤◌, Bool, true, false, cond, not, ◌||◌, eqb, leb, ◌⊎◌, List, length, Ok, Err, Result, sym, refl, ap, ◌∙◌, subst, inl, inr, arith}
+use Rattle.std.proofs.Common.{◌≡◌, ℕ, zero, suc, ◌+◌, ◌<◌, Bool, true, false, cond, eqb, leb, ◌⊎◌, List, length, Ok, Err, Result, sym, refl, subst, inl, inr, arith}
 use Rattle.std.specs.Result.{result_and, result_map_both}
 use Rattle.ranges.proofs.RangeLaws.{below_suc}
 use Rattle.std.proofs.lemmas.Bool.{and_parts, eqb-true}
 use Rattle.jobs.specs.FlatJob.{byte, begins_as, leads, narrow, flat_job}
 use Rattle.jobs.specs.Sections.{section_fits, is_ground, ground_fault, text_fault}
 use Rattle.jobs.specs.Parts.{offset, sections_arena}
-use Rattle.jobs.specs.JobFile.{in_turn, looked_for, turn, total, ended, few_states, sections_checked, sectioned_checked, job_checked}
-use Rattle.jobs.specs.Loaded.{Sound, AllSound}
+use Rattle.jobs.specs.JobFile.{in_turn, looked_for, turn, total, ended, few_states, sectioned_checked, job_checked}
+use Rattle.jobs.specs.Loaded.{AllSound}
 use Rattle.jobs.specs.declared.fault.JobFault.{JobFault}
 use Rattle.jobs.specs.declared.fault.JobFault.TheVariants.{Section}
 use Rattle.jobs.specs.declared.turn.Turn.{Turn}

@@ -1,30 +1,25 @@
 -- What the nested pairs make of words.
-use Rattle.std.proofs.Common.{◌≡◌, ℕ, zero, suc, ◌+◌, ◌*◌, ◌<◌, ◌≤◌, Bool, true, false, cond, ◌&&◌, eqb, ltb, leb, ◌⊎◌, List, length, Some, None, Ok, Err, Option, Result, sym, refl, ap, ◌∙◌, subst, ap₂, inl, inr, le-mul_of_pos_right, arith}
+use Rattle.std.proofs.Common.{◌≡◌, ℕ, zero, suc, ◌+◌, ◌*◌, ◌<◌, ◌≤◌, Bool, true, false, cond, ◌&&◌, ltb, leb, ◌⊎◌, List, length, Some, None, Ok, Err, Option, Result, sym, refl, ap, ◌∙◌, subst, ap₂, inl, inr, le-mul_of_pos_right, arith}
 use Rattle.ranges.proofs.RangeLaws.{below_suc}
-use Rattle.std.specs.Result.{result_map_both}
 use Rattle.std.proofs.lemmas.Bool.{leb-true, ltb-true, and_parts}
 use Rattle.automata.specs.Arena.{Arena}
 use Rattle.automata.specs.Machine.{Machine, machine_in}
-use Rattle.automata.specs.Layers.{both, held, duty_arena, right_arena, right_fits}
-use Rattle.automata.specs.Walks.{walked, Holds, Carries, Adds}
+use Rattle.automata.specs.Layers.{both, held, right_fits}
+use Rattle.automata.specs.Walks.{walked, Carries, Adds}
 use Rattle.automata.specs.declared.word.Round.{Round}
 use Rattle.automata.proofs.LayerLaws.{Sane, held_sane, duty_sane, right_sane}
 use Rattle.automata.proofs.WalkLaws.{Rooted, holds, carries, adds}
 use Rattle.ltlf.specs.Formulas.{Ltl, terms}
-use Rattle.ltlf.specs.Reading.{outcome, checked}
-use Rattle.ltlf.specs.Laws.{TextOf}
+use Rattle.ltlf.specs.Reading.{outcome}
 use Rattle.ltlf.proofs.Prefixes.{reads_as}
 use Rattle.ltlf.specs.CodeLaws.{codes_few}
 use Rattle.ltlf.specs.declared.fault.TextFault.{TextFault}
-use Rattle.jobs.specs.FlatJob.{byte, narrow}
+use Rattle.jobs.specs.FlatJob.{byte}
 use Rattle.jobs.specs.Sections.{is_table, is_held, count, fourth, body, section_fits, table_fits, rule_fits, text_fault}
 use Rattle.automata.specs.Table.{table_by}
 use Rattle.jobs.specs.Parts.{rule_machine, plain, machine, offset, part, nested, formula, sections_arena}
 use Rattle.jobs.specs.Composed.{together, Stand, Composed}
-use Rattle.jobs.specs.Loaded.{Sound, Composes}
-use Rattle.jobs.specs.declared.fault.SectionFault.{SectionFault}
-use Rattle.jobs.specs.declared.fault.SectionFault.TheVariants.{Text}
-use Rattle.jobs.proofs.CountLaws.{nested_rights}
+use Rattle.jobs.specs.Loaded.{Composes}
 use Rattle.jobs.specs.PartLaws.{table_by_sane, rule_by_sane}
 use Rattle.jobs.proofs.CheckedLaws.{Passed, passed, sectioned, all_sound}
 

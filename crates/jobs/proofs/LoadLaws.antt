@@ -1,5 +1,5 @@
 -- The automata of sections, once they are made.
-use Rattle.std.proofs.Common.{◌≡◌, ℕ, zero, suc, ◌+◌, ◌<◌, Bool, true, false, cond, not, ◌&&◌, ◌||◌, List, sym, refl, ap, ◌∙◌, subst, ap₂}
+use Rattle.std.proofs.Common.{◌≡◌, ℕ, Bool, true, false, cond, not, ◌&&◌, List, sym, refl, ap, ◌∙◌}
 use Rattle.automata.specs.Machine.{Machine}
 use Rattle.automata.specs.Layers.{held}
 use Rattle.std.proofs.lemmas.Bool.{and_parts}

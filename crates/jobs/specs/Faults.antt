@@ -1,6 +1,5 @@
 -- The numbers of the refusals of a job, and the section that some of them name.
 use Rattle.std.specs.Prelude.{ℕ, Some, None, Option}
-use Rattle.ltlf.specs.declared.fault.TextFault.{TextFault}
 use Rattle.jobs.specs.declared.fault.SectionFault.{SectionFault}
 use Rattle.jobs.specs.declared.fault.SectionFault.TheVariants.{NotAGround, StepsToNone, Text}
 use Rattle.jobs.specs.declared.fault.JobFault.{JobFault}

@@ -1,9 +1,8 @@
 -- What a list of bytes is as a job. A job in sections is 68, 74, 1, reading bits, command bits, rights
 -- and a two-byte total, low byte first; then a section for the ground, one for the duty and one for
 -- each right, without gaps. A flat job begins with 68, 70, 1.
-use Rattle.std.specs.Prelude.{ℕ, zero, suc, ◌+◌, ◌*◌, Bool, true, false, cond, ◌&&◌, List, length, Ok, Err, Result, ◌==◌, nat_le}
+use Rattle.std.specs.Prelude.{ℕ, zero, suc, ◌+◌, ◌*◌, cond, List, length, Ok, Err, Result, ◌==◌, nat_le}
 use Rattle.std.specs.Result.{result_and, result_map_both}
-use Rattle.automata.specs.Arena.{Arena}
 use Rattle.jobs.specs.FlatJob.{byte, begins_as, leads, narrow, flat_job}
 use Rattle.jobs.specs.Sections.{form_fault, ground_fault, none_fault, text_fault}
 use Rattle.jobs.specs.Parts.{offset, sections_arena}

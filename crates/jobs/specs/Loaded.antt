@@ -8,7 +8,6 @@ use Rattle.jobs.specs.Parts.{offset, sections_arena}
 use Rattle.jobs.specs.JobFile.{job_checked}
 use Rattle.jobs.specs.Meanings.{job_arena}
 use Rattle.jobs.specs.Composed.{Composed}
-use Rattle.jobs.specs.declared.fault.JobFault.{JobFault}
 use Rattle.jobs.specs.declared.job.Job.{Job}
 use Rattle.jobs.specs.declared.load.LoadFault.{LoadFault}
 use Rattle.jobs.specs.declared.load.LoadFault.TheVariants.{Refused, Memory}

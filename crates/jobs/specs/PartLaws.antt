@@ -1,5 +1,5 @@
 -- Every part and every job keeps the laws of automata and arenas.
-use Rattle.std.specs.Prelude.{◌≡◌, ℕ, ◌+◌, ◌*◌, ◌^◌, ◌<◌, ◌≤◌, List, length, vec_items, refl}
+use Rattle.std.specs.Prelude.{ℕ, ◌<◌, ◌≤◌, List, length, vec_items, refl}
 use Rattle.std.proofs.Common.{rules, arith}
 use Rattle.automata.specs.Arena.{Arena}
 use Rattle.automata.specs.Flat.{flat_arena}

@@ -1,7 +1,7 @@
 -- A section of a job, by its bytes from an offset o on: kind, held, count, a fourth byte, and a body.
 -- Kind 1 is a table: count states, the fourth byte the start, and as body a mark byte for each state
 -- and a step byte for each state, reading and command. Kind 2 is a rule: count bytes of text as body.
-use Rattle.std.specs.Prelude.{ℕ, zero, suc, ◌+◌, ◌*◌, ◌^◌, Bool, cond, not, ◌&&◌, ◌||◌, ltb, List, length, take, drop, Ok, Err, Result, ◌==◌, nat_eq, nat_le, nat_lt}
+use Rattle.std.specs.Prelude.{ℕ, ◌+◌, ◌*◌, ◌^◌, Bool, cond, not, ◌&&◌, ◌||◌, ltb, List, length, take, drop, Ok, Err, Result, ◌==◌, nat_eq, nat_le, nat_lt}
 use Rattle.std.specs.Result.{result_map_both}
 use Rattle.ranges.specs.Ranges.{all}
 use Rattle.ltlf.specs.Reading.{checked}

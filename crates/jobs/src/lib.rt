@@ -1,4 +1,6 @@
 // Job files: from bytes to the arena of a job, or the refusal.
+#![tactic(auto)]
+
 mod assemble;
 pub mod check;
 mod count;

@@ -1,17 +1,17 @@
 -- The codes of a rule's terms against its meaning.
-use Rattle.std.proofs.Common.{◌≡◌, ℕ, zero, suc, ◌+◌, ◌-◌, ◌*◌, ◌/◌, ◌%◌, ◌<◌, ◌≤◌, Bool, true, false, cond, not, ◌&&◌, ◌||◌, eqb, List, [], ◌∷◌, length, Decides, sym, refl, ap, ◌∙◌, subst, mod-eq_of_lt, zero-add, arith}
+use Rattle.std.proofs.Common.{◌≡◌, ℕ, zero, suc, ◌+◌, ◌*◌, ◌/◌, ◌%◌, ◌<◌, ◌≤◌, Bool, true, false, cond, not, ◌&&◌, ◌||◌, eqb, List, [], ◌∷◌, length, Decides, refl, ap, ◌∙◌, mod-eq_of_lt, zero-add, arith}
 use native.Mathlib.Nat.{add-mul-mod_self_left, add-mul-div_left, div-eq_of_lt, zero-mod, zero-div}
 use Rattle.std.proofs.lemmas.Bool.Decides.{Decides-not, Decides-and, Decides-or, Decides-at}
 use Rattle.ltlf.specs.Operators.{temporal2, joined}
 use Rattle.ltlf.specs.Formulas.{Ltl, truth, digit, one, two, plain, unnested}
 use Rattle.ltlf.specs.Words.{digit_bit, round_at, Holds}
-use Rattle.ltlf.specs.Codes.{shows, while_open, until_code, codes, stepped, marks, later, code_after}
+use Rattle.ltlf.specs.Codes.{shows, codes, stepped, marks, later, code_after}
 use Rattle.ltlf.specs.declared.formula.Unary.TheVariants.{Not, Next, Eventually, Always}
 use Rattle.ltlf.specs.declared.formula.Binary.{Binary}
 use Rattle.ltlf.specs.declared.formula.Binary.TheVariants.{And, Or, Until}
 use Rattle.automata.specs.declared.word.Round.{Round}
 use Rattle.ltlf.proofs.Truths.{nope, and_left, and_right, both, or_right}
-use Rattle.ltlf.specs.CodeLaws.{codes_some, codes_two, stepped_two, stepped_lt, low, high, together}
+use Rattle.ltlf.specs.CodeLaws.{codes_some, stepped_two, stepped_lt}
 
 -- ---- one round
 

@@ -1,6 +1,5 @@
 -- The terms and codes of a formula of two sides.
-use Rattle.std.proofs.Common.{◌≡◌, ℕ, zero, suc, ◌+◌, ◌-◌, ◌*◌, ◌/◌, ◌%◌, ◌^◌, ◌<◌, ◌≤◌, false, cond, [], ◌∷◌, ◌++◌, length, Box, sym, ap, ◌∙◌, subst, mod-lt, mul_comm, div-lt_iff_lt-mul, pow-suc, arith, length-append, pow-add}
-use lib.Arith.{digits_lt}
+use Rattle.std.proofs.Common.{◌≡◌, ℕ, ◌*◌, ◌<◌, ◌≤◌, false, length, Box, ap, ◌∙◌, arith}
 use Rattle.ltlf.specs.Operators.{temporal2}
 use Rattle.ltlf.specs.Formulas.{Ltl, two, shape, terms}
 use Rattle.ltlf.specs.Codes.{codes}

@@ -1,7 +1,7 @@
 -- The steps of a rule's automaton over words.
-use Rattle.std.proofs.Common.{◌≡◌, ℕ, suc, ◌+◌, ◌-◌, ◌*◌, ◌^◌, ◌<◌, ◌≤◌, Bool, true, false, cond, not, ◌&&◌, eqb, ltb, List, [], ◌∷◌, ◌++◌, map, length, Some, None, Decides, Option, sym, refl, ap, ◌∙◌, mul_assoc, mul_comm, pow-suc, arith}
+use Rattle.std.proofs.Common.{◌≡◌, ℕ, suc, ◌+◌, ◌-◌, ◌*◌, ◌^◌, ◌<◌, Bool, true, false, cond, not, ◌&&◌, eqb, ltb, List, [], ◌∷◌, ◌++◌, map, length, Some, None, Decides, Option, sym, refl, ap, ◌∙◌, mul_assoc, mul_comm, pow-suc, arith}
 use Rattle.std.proofs.lemmas.Bool.Decides.{nat_tests, Decides-at}
-use Rattle.automata.specs.Steps.{Inside, onward}
+use Rattle.automata.specs.Steps.{onward}
 use Rattle.ltlf.specs.Formulas.{Ltl, truth, digit, one, two, unnested, terms}
 use Rattle.ltlf.specs.Words.{Holds, Satisfies, in_range}
 use Rattle.ltlf.specs.Codes.{codes, stepped, marks, count, rule_step, rule_marked, later, code_after, number_of}

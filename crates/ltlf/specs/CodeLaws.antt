@@ -1,5 +1,5 @@
 -- The codes of a rule's terms stay below their number, so a rule's automaton keeps the laws.
-use Rattle.std.specs.Prelude.{◌≡◌, ℕ, ◌+◌, ◌-◌, ◌*◌, ◌/◌, ◌%◌, ◌^◌, ◌<◌, ◌≤◌, Bool, true, false, cond, ◌&&◌, ◌∷◌, [], ◌++◌, length, Some, None, refl, ◌==◌, nat_lt}
+use Rattle.std.specs.Prelude.{◌≡◌, ℕ, ◌+◌, ◌-◌, ◌*◌, ◌/◌, ◌%◌, ◌^◌, ◌<◌, ◌≤◌, Bool, true, false, cond, ◌&&◌, ◌∷◌, [], ◌++◌, length, Some, None, refl}
 use Rattle.std.proofs.Common.{zero, suc, eqb, ltb, sym, ap, ◌∙◌, subst, mod-lt, mul_comm, div-lt_iff_lt-mul, pow-suc, pow-add, length-append, arith}
 use Rattle.std.proofs.lemmas.Bool.Decides.{nat_tests}
 use lib.Arith.{digits_lt}

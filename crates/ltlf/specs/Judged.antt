@@ -1,5 +1,5 @@
 -- What an automaton makes of words: the rule's theorem.
-use Rattle.std.specs.Prelude.{◌≡◌, ℕ, ◌+◌, true, false, List, [], ◌∷◌, map, Some, None, Decides, Option}
+use Rattle.std.specs.Prelude.{◌≡◌, ℕ, ◌+◌, true, false, List, ◌∷◌, map, Some, None, Decides, Option}
 use Rattle.automata.specs.Walks.{led}
 use Rattle.automata.specs.declared.automaton.Automaton.{Ghosts as Automatic}
 use Rattle.ltlf.specs.Formulas.{Ltl, terms}

@@ -1,5 +1,7 @@
 // Formulas of linear temporal logic on finite words: their text, their meaning, and the automaton
 // of a rule.
+#![tactic(auto)]
+
 pub mod automaton;
 mod build;
 pub mod check;

@@ -2,6 +2,8 @@
 // the first argument names. Prints the verdict on it: of a planned job the rank and the command sets of
 // every ranked state, of an unplayable one the columns of the ground sheet. With a second argument it
 // also writes the sheet to the file of that name.
+#![tactic(auto)]
+
 use anyhow::anyhow;
 use assurance::assure::assure;
 use assurance::outcome::Outcome;

@@ -1,4 +1,6 @@
 // The planner: the sheets of any tables and columns, and the sheet of an arena.
+#![tactic(auto)]
+
 use games::solver::Solver;
 
 pub mod drive_sheet;

@@ -1,4 +1,6 @@
 // Reads a formula's text, the widths and a word, and follows the rule's automaton over the word.
+#![tactic(auto)]
+
 use anyhow::anyhow;
 use automata::automaton::Automaton;
 use ltlf::fault::RuleFault;

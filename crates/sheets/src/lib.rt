@@ -1,5 +1,7 @@
 // Drive sheets: the format, as definitions from bytes to tables and back, and the opener. A display
 // carries this crate, so nothing here writes a sheet or takes memory.
+#![tactic(auto)]
+
 ghost use Rattle.std.specs.Prelude.{◌≡◌, true};
 ghost use Rattle.sheets.specs.Whole.{whole};
 

@@ -1,10 +1,9 @@
-use Rattle.std.proofs.Common.{◌≡◌, ℕ, ◌≤◌, length, None, Ok, Err, Result, sym, refl, ap, ◌∙◌, subst}
+use Rattle.std.proofs.Common.{◌≡◌, ◌≤◌, length, None, Ok, Err, Result, sym, refl, ap, ◌∙◌, subst}
 use Rattle.std.proofs.lemmas.Result.{err_from_is_err_and}
-use Rattle.automata.specs.Arena.{Arena, arena_of}
+use Rattle.automata.specs.Arena.{arena_of}
 use Rattle.automata.specs.Lawful.{LawfulArena}
-use Rattle.games.specs.Verdicts.{verdict}
 use Rattle.games.specs.declared.verdict.Verdict.{Verdict}
-use Rattle.games.specs.declared.verdict.Verdict.TheVariants.{Groundless, Planned, Unplayable}
+use Rattle.games.specs.declared.verdict.Verdict.TheVariants.{Planned, Unplayable}
 use Rattle.planner.specs.declared.fault.PlanFault.{PlanFault}
 use Rattle.assurance.specs.Assured.{verdict_of, Assured, ByVerdict}
 use Rattle.assurance.proofs.RunLaws.{drives}

@@ -1,10 +1,9 @@
-use Rattle.std.proofs.Common.{◌≡◌, ℕ, ◌<◌, ◌≤◌, List, sym, subst, arith}
+use Rattle.std.proofs.Common.{◌≡◌, sym, subst, arith}
 use Rattle.automata.specs.Arena.{arena_of}
 use Rattle.games.specs.Search.{Monotone, Ranks}
 use Rattle.games.specs.Passes.{Passed}
 use Rattle.games.proofs.Rows.{Row, row_more, row_last, row_ranks}
 use Rattle.games.proofs.SettledLaws.{settles}
-use Rattle.games.proofs.search.search.Given as given
 use Rattle.games.proofs.search.search.Goals as goal
 
 pub loop-stage-preserved : goal.loop-stage-preserved

@@ -1,4 +1,4 @@
-use Rattle.std.proofs.Common.{◌≡◌, ℕ, suc, ◌+◌, sym, ap, ◌∙◌, ap₂, add-one, arith}
+use Rattle.std.proofs.Common.{◌≡◌, sym, ap, ◌∙◌, ap₂, add-one, arith}
 use Rattle.jobs.specs.Parts.{machine, part_by, nested}
 use Rattle.jobs.proofs.CountLaws.{paired, nested_states}
 use Rattle.jobs.proofs.count.arena_states.Goals as goal

@@ -1,4 +1,4 @@
-use Rattle.std.proofs.Common.{◌≡◌, vec_items, sym, ap, ◌∙◌}
+use Rattle.std.proofs.Common.{vec_items, sym, ap, ◌∙◌}
 use Rattle.automata.specs.Table.{table}
 use Rattle.jobs.proofs.LoadLaws.{held_part}
 use Rattle.jobs.proofs.load.load_part.Goals as goal

@@ -1,4 +1,4 @@
-use Rattle.std.proofs.Common.{◌≡◌, ℕ, suc, ◌+◌, sym, ap, ◌∙◌, add-one, arith}
+use Rattle.std.proofs.Common.{sym, ap, ◌∙◌, add-one, arith}
 use Rattle.jobs.specs.Sections.{end}
 use Rattle.jobs.specs.Parts.{offset}
 use Rattle.jobs.proofs.turns.offset.Goals as goal

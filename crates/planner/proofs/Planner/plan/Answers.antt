@@ -1,5 +1,5 @@
 use Rattle.std.proofs.Common.{◌≡◌, ◌<◌, ◌≤◌, length, Ok, Err, Result, sym, ap, ◌∙◌, arith}
-use Rattle.automata.specs.Arena.{Arena, arena_of}
+use Rattle.automata.specs.Arena.{arena_of}
 use Rattle.automata.specs.Lawful.{LawfulArena}
 use Rattle.games.specs.declared.verdict.Verdict.{Verdict}
 use Rattle.games.specs.Solved.{solver_arena}

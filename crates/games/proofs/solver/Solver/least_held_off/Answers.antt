@@ -1,4 +1,4 @@
-use Rattle.std.proofs.Common.{◌≡◌, sym, ◌∙◌, arith}
+use Rattle.std.proofs.Common.{sym, ◌∙◌, arith}
 use Rattle.ranges.proofs.RangeLaws.{T_true, least_is, least_none}
 use Rattle.games.proofs.solver.Solver.least_held_off.Goals as goal
 

@@ -1,6 +1,6 @@
-use Rattle.std.proofs.Common.{◌≡◌, ◌<◌, ◌≤◌, true, false, leb, Ok, Err, Result, sym, refl, ap, ◌∙◌, subst, arith}
+use Rattle.std.proofs.Common.{◌≡◌, true, false, leb, Ok, Err, Result, sym, refl, ap, ◌∙◌, subst, arith}
 use Rattle.std.proofs.lemmas.Bool.{le-leb, lt-leb, cond-true, cond-false}
-use Rattle.automata.specs.Arena.{Arena, arena_of}
+use Rattle.automata.specs.Arena.{arena_of}
 use Rattle.games.specs.declared.verdict.Verdict.{Verdict}
 use Rattle.games.specs.declared.verdict.GameFault.{GameFault}
 use Rattle.games.specs.declared.verdict.GameFault.TheVariants.{TooManyStates}
