@@ -10,13 +10,13 @@ use Rattle.assurance.specs.Entries.{runs_on, after_calls, calls_in, filled}
 
 module _ (H : Tables) (d₀ : Drive) (es₀ : List Entry) where
   -- at the drive d, with i answers written
-  abbrev pub So-far : Drive → ℕ → List Entry → Type 0
-  So-far d i es =
+  abbrev pub SoFar : Drive → ℕ → List Entry → Type 0
+  SoFar d i es =
       (after_calls H d (calls_in (drop i es)) ≡ after_calls H d₀ (calls_in es₀))
       × (take i es ++ filled (runs_on H d (calls_in (drop i es))) ≡ filled (runs_on H d₀ (calls_in es₀)))
 
   pub one_more : (d : Drive) (i : ℕ) (es : List Entry) (p : Entry) (r : Drive × Answer) → i < length es → r ≡ makes H d (get_or es i p).call →
-      So-far d i es → So-far r.0 (i + 1) (set es i (record { call = (get_or es i p).call; answer = Some r.1 }))
+      SoFar d i es → SoFar r.0 (i + 1) (set es i (record { call = (get_or es i p).call; answer = Some r.1 }))
   one_more d i es p r l e h =
       let new : Entry = record { call = (get_or es i p).call; answer = Some r.1 } in
       let more = drop_more es i p l in
@@ -34,7 +34,7 @@ module _ (H : Tables) (d₀ : Drive) (es₀ : List Entry) where
             ∙ h.1,
       )
 
-  pub at_the_end : (d : Drive) (i : ℕ) (es : List Entry) → length es ≤ i → So-far d i es →
+  pub at_the_end : (d : Drive) (i : ℕ) (es : List Entry) → length es ≤ i → SoFar d i es →
       (d ≡ after_calls H d₀ (calls_in es₀)) × (es ≡ filled (runs_on H d₀ (calls_in es₀)))
   at_the_end d i es l h =
       let none = drop_all i es l in (

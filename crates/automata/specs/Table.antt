@@ -5,7 +5,21 @@ use Rattle.automata.specs.Steps.{named}
 use Rattle.automata.specs.Machine.{Machine}
 use Rattle.automata.specs.declared.shape.Shape.{Shape}
 
--- with so many reading bits, command bits and states, and the start
+abbrev pub table : Shape → List ℕ → Machine
+table h bytes =
+    let a = h.reading_bits in
+    let b = h.command_bits in
+    let n = h.count in
+    record {
+      a = a;
+      b = b;
+      n = n;
+      start = h.start;
+      marked = λ q. nat_lt q n && (slice_index bytes q == 1);
+      step = λ q x y. cond (nat_lt q n && nat_lt x (2 ^ a) && nat_lt y (2 ^ b)) (named n (slice_index bytes (n + ((q * 2 ^ a + x) * 2 ^ b + y)))) None;
+    }
+
+-- the same with the numbers given one by one: reading bits, command bits, states and the start
 abbrev pub table_by : ℕ → ℕ → ℕ → ℕ → List ℕ → Machine
 table_by a b n start bytes =
     record {
@@ -16,6 +30,3 @@ table_by a b n start bytes =
       marked = λ q. nat_lt q n && (slice_index bytes q == 1);
       step = λ q x y. cond (nat_lt q n && nat_lt x (2 ^ a) && nat_lt y (2 ^ b)) (named n (slice_index bytes (n + ((q * 2 ^ a + x) * 2 ^ b + y)))) None;
     }
-
-abbrev pub table : Shape → List ℕ → Machine
-table h bytes = table_by h.reading_bits h.command_bits h.count h.start bytes

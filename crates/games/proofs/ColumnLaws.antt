@@ -39,18 +39,18 @@ module _ (A : Arena) (R M : ℕ → Bool) where
   abbrev pub into : ℕ → ℕ → ℕ → ℕ
   into r q x = least (2 ^ A.b) (λ y. onward (A.step q x y) false (column A R M r))
 
-  unfoldable pub plan-of : ℕ → ℕ → Plan
-  plan-of zero q = at_once
-  plan-of (suc r) q =
-      elim (column A R M r q) [ true ↦ plan-of r q | false ↦ on_by (into r q) (λ x. plan-of r (stepped (A.step q x (into r q x)))) ]
+  unfoldable pub plan_of : ℕ → ℕ → Plan
+  plan_of zero q = at_once
+  plan_of (suc r) q =
+      elim (column A R M r q) [ true ↦ plan_of r q | false ↦ on_by (into r q) (λ x. plan_of r (stepped (A.step q x (into r q x)))) ]
 
-  plan_stays : (r q : ℕ) → column A R M r q ≡ true → plan-of (suc r) q ≡ plan-of r q
-  unfolding plan-of
-  plan_stays r q e = rw (e, plan-of)
+  plan_stays : (r q : ℕ) → column A R M r q ≡ true → plan_of (suc r) q ≡ plan_of r q
+  unfolding plan_of
+  plan_stays r q e = rw (e, plan_of)
 
-  plan_goes : (r q : ℕ) → column A R M r q ≡ false → plan-of (suc r) q ≡ on_by (into r q) (λ x. plan-of r (stepped (A.step q x (into r q x))))
-  unfolding plan-of
-  plan_goes r q e = rw (e, plan-of)
+  plan_goes : (r q : ℕ) → column A R M r q ≡ false → plan_of (suc r) q ≡ on_by (into r q) (λ x. plan_of r (stepped (A.step q x (into r q x))))
+  unfolding plan_of
+  plan_goes r q e = rw (e, plan_of)
 
 module _ (A : Arena) (L : LawfulArena A) (R M : ℕ → Bool) where
   -- a state that forces a stage has, on a lawful reading, a command into it
@@ -62,32 +62,32 @@ module _ (A : Arena) (L : LawfulArena A) (R M : ℕ → Bool) where
       go (inr u) = any_at (2 ^ A.b) _ u
 
   -- the plan of a stage stops where M holds, within R
-  pub plan_wins : (r q : ℕ) (g : Ground) → LawfulGround A q g → T (column A R M r q) → StopsIn A (λ s. T (R s)) (λ s. T (M s)) (plan-of A R M r q) g q
-  unfolding plan-of
+  pub plan_wins : (r q : ℕ) (g : Ground) → LawfulGround A q g → T (column A R M r q) → StopsIn A (λ s. T (R s)) (λ s. T (M s)) (plan_of A R M r q) g q
+  unfolding plan_of
   plan_wins zero q g h t = (q, ends (and_l (R q) (M q) t) refl, and_r (R q) (M q) t)
   plan_wins (suc r) q g h t = go (T-dec (column A R M r q)) (plan_wins r)
     where
       Wins : ℕ → ℕ → Ground → Type 0
-      Wins r q g = StopsIn A (λ s. T (R s)) (λ s. T (M s)) (plan-of A R M r q) g q
+      Wins r q g = StopsIn A (λ s. T (R s)) (λ s. T (M s)) (plan_of A R M r q) g q
 
       go : T (column A R M r q) ⊎ (T (column A R M r q) → ⊥) →
-          ((q : ℕ) (g : Ground) → LawfulGround A q g → T (column A R M r q) → StopsIn A (λ s. T (R s)) (λ s. T (M s)) (plan-of A R M r q) g q) →
-          StopsIn A (λ s. T (R s)) (λ s. T (M s)) (plan-of A R M (suc r) q) g q
+          ((q : ℕ) (g : Ground) → LawfulGround A q g → T (column A R M r q) → StopsIn A (λ s. T (R s)) (λ s. T (M s)) (plan_of A R M r q) g q) →
+          StopsIn A (λ s. T (R s)) (λ s. T (M s)) (plan_of A R M (suc r) q) g q
       go (inl s) ih = rw (plan_stays A R M r q (T-eq _ s)) (ih q g h s)
       go (inr s) ih = rw (plan_goes A R M r q (T_false _ s)) (joined (or_case (column A R M r q) _ t))
         where
           joined : T (column A R M r q) ⊎ T (R q && forces A (column A R M r) q) →
-              StopsIn A (λ s. T (R s)) (λ s. T (M s)) (on_by (into A R M r q) (λ x. plan-of A R M r (stepped (A.step q x (into A R M r q x))))) g q
+              StopsIn A (λ s. T (R s)) (λ s. T (M s)) (on_by (into A R M r q) (λ x. plan_of A R M r (stepped (A.step q x (into A R M r q x))))) g q
           joined (inl u) = absurd (s u)
           joined (inr u) =
               let f = forced (column A R M r) q (g []) (and_r (R q) _ u) (ground_lawful A L q g h) (lawful_reads A L q g h) in
               let m = least_passes (2 ^ A.b) (λ y. onward (A.step q (g []) y) false (column A R M r)) f.0 f.1 f.2 in
               let v = in_of _ (column A R M r) m.1 in
               let w = ih v.0 (after g (into A R M r q (g []))) (lawful_after A L q g h _ v.0 m.0 v.1) v.2 in
-              (w.0, goes (and_l (R q) _ u) refl v.1 (subst (λ (z : ℕ). Play A (λ s. T (R s)) (plan-of A R M r z) (after g (into A R M r q (g []))) v.0 w.0) (sym (ap stepped v.1)) w.1), w.2)
+              (w.0, goes (and_l (R q) _ u) refl v.1 (subst (λ (z : ℕ). Play A (λ s. T (R s)) (plan_of A R M r z) (after g (into A R M r q (g []))) v.0 w.0) (sym (ap stepped v.1)) w.1), w.2)
 
-  abbrev ranked-in : ℕ → Bool
-  ranked-in q = column A R M A.n q
+  abbrev ranked_in : ℕ → Bool
+  ranked_in q = column A R M A.n q
 
   -- at an unranked state of R some lawful reading has every command lead to unranked states
   pub held_off : (q : ℕ) → T (unbroken A q) → T (R q) → (T (column A R M A.n q) → ⊥) →

@@ -14,7 +14,7 @@ use Rattle.games.specs.Verdicts.{lacking}
 use Rattle.games.specs.Following.{turned, follows, followed}
 use Rattle.ranges.proofs.RangeLaws.{T-dec, T-eq, T_false, and_l, and_r, and_mk, not_mk, not_at, all_at, all_mk, least_passes, least_holds}
 use Rattle.games.proofs.GroundLaws.{in_of, none≢some, lawful_kept}
-use Rattle.games.proofs.ColumnLaws.{play_map, plan-of, plan_wins, held_off, marked_ranked}
+use Rattle.games.proofs.ColumnLaws.{play_map, plan_of, plan_wins, held_off, marked_ranked}
 
 module _ (A : Arena) (L : LawfulArena A) where
   pub kept_unbroken : (i q : ℕ) → T (kept A i q) → T (unbroken A q)
@@ -124,7 +124,7 @@ module _ (A : Arena) (L : LawfulArena A) where
 
   pub ranked_open : (j q : ℕ) → T (ranked A (suc j) q) → Open A (suc j) q
   ranked_open j q t = (
-    plan-of A (unbroken A) (λ q. A.marked q && A.right (suc j) q) A.n q,
+    plan_of A (unbroken A) (λ q. A.marked q && A.right (suc j) q) A.n q,
     λ g h. let w = plan_wins A L (unbroken A) (λ q. A.marked q && A.right (suc j) q) A.n q g h t in
         (w.0, play_map (λ s u. tt) w.1, (and_l (A.marked w.0) _ w.2, and_r (A.marked w.0) _ w.2)),
   )
@@ -155,6 +155,6 @@ module _ (A : Arena) (L : LawfulArena A) where
 
   pub ranked_fulfils : T (ranked A 0 A.start) → (p : Plan) × Fulfils A p
   ranked_fulfils t = (
-    plan-of A (fence A) A.marked A.n A.start,
+    plan_of A (fence A) A.marked A.n A.start,
     λ g h. let w = plan_wins A L (fence A) A.marked A.n A.start g h t in (w.0, play_map fence_open w.1, w.2),
   )

@@ -68,20 +68,20 @@ module _ (A : Arena) (L : LawfulArena A) where
         (subst₂ Rule U ei r).rank
 
     module _ (rights : List ℕ) (fenced : RightsFound A A.k rights) where
-      abbrev pub fenced-in : ℕ → Bool
-      fenced-in q = unranked q && all A.k (λ j. not (eqb (get_or rights (j * 256 + q) 0) 65535))
+      abbrev pub fenced_in : ℕ → Bool
+      fenced_in q = unranked q && all A.k (λ j. not (eqb (get_or rights (j * 256 + q) 0) 65535))
 
-      fenced_at : (q : ℕ) → fenced-in q ≡ fence A q
+      fenced_at : (q : ℕ) → fenced_in q ≡ fence A q
       fenced_at q = go (cases_lt q A.n)
         where
-          go : (q < A.n) ⊎ (A.n ≤ q) → fenced-in q ≡ fence A q
+          go : (q < A.n) ⊎ (A.n ≤ q) → fenced_in q ≡ fence A q
           go (inl l) = ap₂ ◌&&◌ (unranked_at q) (all_same A.k _ _ (λ j h.
               ap not (ap (λ v. eqb v 65535) (fenced j q (h, l)) ∙ rank_lacks_in (suc j) q) ∙ not_not (right_column A (suc j) A.n q)))
           go (inr l) =
               let e = ap not (broken_outside q l) in
               and_left (unranked q) _ (unranked_at q ∙ e) ∙ sym (and_left (unbroken A q) _ e)
 
-      pub fenced_is : fenced-in ≡ fence A
+      pub fenced_is : fenced_in ≡ fence A
       fenced_is = fun_ext fenced_at
 
       pub duty_found : (row : List ℕ) (n k : ℕ) → n ≡ A.n → k ≡ A.k →

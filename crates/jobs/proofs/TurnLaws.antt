@@ -17,10 +17,6 @@ in_turn_err f i (suc n) e ok err h = go (below_suc i n h) (in_turn_err f i n e o
         subst (λ (m : ℕ). in_turn (suc m) f ≡ Err e) same last
     go (inr less) ih = ap {B = Result (Unit {0}) JobFault} (λ r. result_and r (f n)) (ih less)
 
--- a section without a fault leaves it
-pub in_turn_more : (f : ℕ → Result (Unit {0}) JobFault) (i : ℕ) (u : Unit {0}) → in_turn i f ≡ Ok tt → f i ≡ Ok u → in_turn (i + 1) f ≡ Ok tt
-in_turn_more f i u ok here = rw add-one (ap₂ {C = Result (Unit {0}) JobFault} (λ r s. result_and r s) ok here)
-
 -- no byte is left past the end
 pub none_left : (n m : ℕ) (bs : List ℕ) → length bs < m → [] ≡ take n (drop m bs)
 none_left n m bs h = sym (ap (take n) (drop_all m bs (omega arith)) ∙ take_all n [] (omega arith))
