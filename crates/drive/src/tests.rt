@@ -51,9 +51,9 @@ fn damage(rt: HostRuntime) {
     assert!(rt; damaged(74, 4)); // a set bit
     assert!(rt; !opens(&SHEET[..19])); // too short for a head
     assert!(rt; !opens(&SHEET[..85])); // shorter than its total
+    // a set bit over a step to none
     let mut none = SHEET;
     none[26] = 255;
     none[27] = 255;
     assert!(rt; !opens(&none));
-    // a set bit over a step to none
 }

@@ -1,5 +1,5 @@
 -- Turns through the sections, and the body of a section.
-use Rattle.std.proofs.Common.{◌≡◌, ℕ, zero, suc, ◌+◌, ◌-◌, ◌<◌, ◌≤◌, ◌⊎◌, List, [], length, take, drop, Ok, Err, Result, sym, ap, ◌∙◌, subst, ap₂, inl, inr, add-one, arith, length-drop, take_all}
+use Rattle.std.proofs.Common.{◌≡◌, ℕ, zero, suc, ◌-◌, ◌<◌, ◌≤◌, ◌⊎◌, List, [], length, take, drop, Ok, Err, Result, sym, ap, ◌∙◌, subst, ap₂, inl, inr, arith, length-drop, take_all}
 use Rattle.std.proofs.lemmas.List.{drop_all}
 use Rattle.std.specs.Result.{result_and}
 use Rattle.ranges.proofs.RangeLaws.{below_suc}

@@ -6,7 +6,7 @@ ghost use Rattle.jobs.specs.declared.fault.SectionFault.TheVariants.{Text as ByT
 
 use ltlf::fault::TextFault;
 
-// Why a section is refused.
+// Why a section that is well formed is refused.
 #[derive(Clone, Copy, PartialEq, Eq, Debug)]
 pub enum SectionFault {
     // The ground is a rule, held or marked.
@@ -26,13 +26,12 @@ pub enum JobFault {
     TooManyBits,
     // More than four rights.
     TooManyRights,
-    // A section is malformed, cut short or followed by spare bytes. What follows the head of a
-    // flat job counts as section 0.
+    // A section is malformed, cut short or, if it is the last, followed by spare bytes. The ground is
+    // section 0, the duty 1, right i is i + 1. What follows the head of a flat job counts as section 0.
     Malformed(u8),
     // The total is not the number of bytes.
     WrongTotal,
-    // A section is refused: the ground is section 0, the duty 1, right i is i + 1. What follows
-    // the head of a flat job counts as section 0.
+    // A section that is well formed is refused, the sections being numbered in the same way.
     Section(u8, SectionFault),
     // The arena has more than 256 states.
     TooManyStates,

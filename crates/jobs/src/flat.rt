@@ -1,8 +1,8 @@
 // Reading a flat job: one table with all marks.
-ghost use Rattle.std.specs.Prelude.{◌≡◌, ◌*◌, ◌^◌, ◌≤◌, Bool, true, ◌||◌};
+ghost use Rattle.std.specs.Prelude.{◌≡◌, ◌*◌, ◌^◌, ◌≤◌, true};
 ghost use Rattle.jobs.specs.FlatJob.{byte, begins_as, narrow, cells, states_fit, marks_fit, steps_fit, rest_fits, told, flat_job};
 
-use crate::fault::{JobFault, SectionFault};
+use crate::fault::JobFault;
 use crate::scan::{ByteTest, all_pass};
 use automata::bytes::Bytes;
 use automata::header::FlatHeader;

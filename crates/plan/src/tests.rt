@@ -3,7 +3,6 @@ use crate::plan_job;
 use assurance::assure::assure;
 use automata::arena::Arena;
 use automata::automaton::Automaton;
-use jobs::load::LoadFault;
 use jobs::read::load;
 use planner::Planner;
 use std::process::Abort;
