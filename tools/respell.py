@@ -7,16 +7,14 @@ Run once, at the top of the repository (or of FOLDER), right behind the kit's po
 was written with dashes becomes snake case, and a type or a fact upper camel case: `flat-arena` is
 `flat_arena`, `Lawful-arena` is `LawfulArena`. Names that the toolchain makes (goals, generated
 fields), functions of src/, strings and files of input and output keep theirs. --list writes the
-names, old and new, and changes nothing. A name whose new spelling something else in its crate has
-already gets the name that TAKEN gives it; one that is taken and not in TAKEN stops the script.
+names, old and new, and changes nothing. A name whose new spelling a file has already is told in a
+line 'taken:' and turned all the same: here each such pair is a function and the definition that it
+answers, or a field and the definition of its value. Look at them before you go on.
 """
 import glob
 import os
 import re
 import sys
-
-# Names whose plain new spelling is taken by something else of the same file or crate.
-TAKEN = {}
 
 RESERVED = set("data record deriving module where use mod pub package open as unfoldable abbrev axiom unfold unfolding ruleset mutual infix infixl infixr elim let in do Type coe fcoe tcoe hcom com".split())
 
@@ -85,7 +83,7 @@ def main():
         for path in antt(root, crate):
             goal_file = os.path.basename(path) in ("Answers.antt", "Invariants.antt", "Choices.antt", "Proof.antt")
             for name, is_type in declared(read(path), goal_file).items():
-                new = TAKEN.get(name, respelled(name, is_type))
+                new = respelled(name, is_type)
                 if new != name:
                     names[name] = new
     files = [p for c in crates for p in antt(root, c)]
