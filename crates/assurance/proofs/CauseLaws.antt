@@ -1,5 +1,5 @@
 -- Which causes apply, from the answer and for it.
-use Rattle.std.proofs.Common.{◌≡◌, ℕ, Bool, true, false, cond, not, T, List, [], ◌∷◌, Some, None, Option, refl, ◌∙◌, arith}
+use Rattle.std.proofs.Common.{◌≡◌, ℕ, Bool, true, false, cond, not, T, List, [], ◌∷◌, Some, None, Option, refl, ◌∙◌}
 use Rattle.std.proofs.lemmas.Bool.{cond-false}
 use Rattle.ranges.proofs.RangeLaws.{T_false}
 use Rattle.automata.specs.Arena.{Arena}
@@ -22,7 +22,7 @@ passed [] e = tt
 passed (c ∷ cs) e = go c.applies (first_cause cs) refl e (passed cs)
   where
     go : (b : Bool) (o : Option Refusal) → c.applies ≡ b → cond b (Some c.why) o ≡ None → (o ≡ None → AllPass cs) → (T c.applies → ⊥) × AllPass cs
-    go true o d e ih = let z : ◌≡◌ {A = ℕ} 0 1 = cc in absurd (omega arith)
+    go true o d e ih = absurd (cc)
     go false o d e ih = (λ t. rw d at t, ih e)
 
 pub not_not : (b : Bool) → (T (not b) → ⊥) → T b
@@ -36,5 +36,5 @@ performed_free A q c w o call e = let u = go (admits w o call) (first_cause (cau
   where
     go : (b : Bool) (f : Option Refusal) → cond b (by_cause f) NotAdmitted ≡ Performed → T b × (f ≡ None)
     go true None e = (tt, refl)
-    go true (Some n) e = let z : ◌≡◌ {A = ℕ} 0 1 = cc in absurd (omega arith)
-    go false f e = let z : ◌≡◌ {A = ℕ} 0 1 = cc in absurd (omega arith)
+    go true (Some n) e = absurd (cc)
+    go false f e = absurd (cc)

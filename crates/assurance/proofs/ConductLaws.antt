@@ -1,5 +1,5 @@
 -- A drive begun on a sheet of the arena's tables and run through a list of calls keeps what is promised.
-use Rattle.std.proofs.Common.{◌≡◌, ℕ, T, List, [], ◌∷◌, map, Ok, Err, Result, sym, refl, ap, ◌∙◌, subst, ap₂, arith}
+use Rattle.std.proofs.Common.{◌≡◌, ℕ, T, List, [], ◌∷◌, map, Ok, Result, sym, refl, ap, ◌∙◌, subst, ap₂, arith}
 use Rattle.std.proofs.lemmas.Bool.{cond-false, ne_eqb, not_from_true}
 use Rattle.automata.specs.Arena.{Arena}
 use Rattle.automata.specs.Lawful.{LawfulArena}
@@ -19,7 +19,7 @@ use Rattle.assurance.specs.Driven.{Driven}
 use Rattle.assurance.specs.Stands.{Stand, first, runs, stands, ReadOff}
 use Rattle.assurance.specs.Made.{makes}
 use Rattle.assurance.specs.Held.{holds}
-use Rattle.assurance.specs.Entries.{runs_on, after_calls, calls_in, filled}
+use Rattle.assurance.specs.Entries.{runs_on, after_calls, calls_in}
 use Rattle.planner.specs.ArenaTables.{arena_tables}
 use Rattle.assurance.specs.Conducted.{drive_from, places_from, conducted, places, Tells, Conducted, WellConducted, KeepsPromise}
 use Rattle.assurance.proofs.RankLaws.{rank_below_none}
@@ -91,14 +91,6 @@ module _ (A : Arena) (L : LawfulArena A) (H : Tables) (S : SameTables (arena_tab
         next = λ call. (joined A L H S d call good).1;
       } in
       subst (λ (r : Result Between Refusal). WellConducted A H rounds es (places_from H es r) (drive_from H es r)) (sym b) (ts, refl, run)
-
--- where begin made a drive, and where it refused
-pub run_conducted : (H : Tables) (es fs : List Entry) (e : Between) (d : Drive) → Ok e ≡ begun H →
-    d ≡ after_calls H (between e) (calls_in es) → fs ≡ filled (runs_on H (between e) (calls_in es)) → (Ok d ≡ conducted H es) × (fs ≡ places H es)
-run_conducted H es fs e d b l w = (ap {B = Result Drive Refusal} Ok l ∙ ap (drive_from H es) b, w ∙ ap (places_from H es) b)
-
-pub none_conducted : (H : Tables) (es : List Entry) (why : Refusal) → Err why ≡ begun H → (Err why ≡ conducted H es) × (es ≡ places H es)
-none_conducted H es why b = (ap (drive_from H es) b, ap (places_from H es) b)
 
 pub kept_promise : (H : Tables) (es fs : List Entry) (r : Result Drive Refusal) → r ≡ conducted H es → fs ≡ places H es → KeepsPromise H es fs r
 kept_promise H es fs r d p A L S rounds e =

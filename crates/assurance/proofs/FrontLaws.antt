@@ -1,5 +1,5 @@
 -- The drive after the front of a run, and what is read off that front.
-use Rattle.std.proofs.Common.{◌≡◌, ℕ, List, [], ◌∷◌, ◌++◌, Some, None, Option, sym, refl, ap, ◌∙◌, subst, arith}
+use Rattle.std.proofs.Common.{◌≡◌, ℕ, List, [], ◌∷◌, ◌++◌, Some, None, Option, sym, refl, ap, ◌∙◌, subst}
 use Rattle.automata.specs.Steps.{onward}
 use Rattle.automata.specs.Arena.{Arena}
 use Rattle.automata.specs.Lawful.{LawfulArena}
@@ -94,7 +94,7 @@ module _ (A : Arena) (L : LawfulArena A) where
     ends = refl;
     longer = λ ts. refl;
   }
-  front [] s h (t ∷ before) behind e = let z : ◌≡◌ {A = ℕ} 0 1 = cc in absurd (omega arith)
+  front [] s h (t ∷ before) behind e = absurd (cc)
   front (call ∷ calls) s h (t ∷ before) behind e =
       let same : made s call ≡ t = cc in
       let rest : runs A (next s call) calls ≡ before ++ behind = cc in

@@ -27,8 +27,8 @@ least_same (suc m) f g h = go (f zero) (g zero) (h zero (omega arith)) (least_sa
         pick b (least m (λ x. f (suc x))) ≡ pick c (least m (λ x. g (suc x)))
     go true true e ih = refl
     go false false e ih = ap suc ih
-    go true false e ih = absurd (let z : ◌≡◌ {A = ℕ} 0 1 = cc in omega arith)
-    go false true e ih = absurd (let z : ◌≡◌ {A = ℕ} 0 1 = cc in omega arith)
+    go true false e ih = absurd (cc)
+    go false true e ih = absurd (cc)
 
 -- THE BYTES are the arena's ground columns
 module _ (A : Arena) (L : LawfulArena A) (bs : List ℕ) (right : ℕ) (R : ReadsBack (arena_grounds A right) bs) where
@@ -97,7 +97,7 @@ module _ (A : Arena) (L : LawfulArena A) where
       go (yes p) = p
       go (no p) =
           let none : A.step q x y ≡ None = L.command_outside q x y (omega (arith, p)) in
-          absurd (let z : ◌≡◌ {A = ℕ} 0 1 = cc in omega arith)
+          absurd (cc)
 
   play_agree : {P : ℕ → Type 0} {p : Plan} {g : Ground} {q q' : ℕ} → Play A P p g q q' → (h : Ground) → Agree g h → Play A P p h q q'
   play_agree (ends x s) h a = ends x s

@@ -1,6 +1,5 @@
 mod CauseLaws
 mod ConductLaws
-mod EntryLaws
 mod FrontLaws
 mod JoinLaws
 mod KeptLaws

@@ -1,5 +1,5 @@
 -- Every run of a planned job keeps what is promised, and the causes determine it.
-use Rattle.std.proofs.Common.{◌≡◌, ℕ, ◌<◌, Bool, true, false, cond, T, List, [], ◌∷◌, ◌++◌, map, Some, None, Option, sym, refl, ap, ◌∙◌, subst, append-nil, arith}
+use Rattle.std.proofs.Common.{◌≡◌, ℕ, ◌<◌, Bool, true, false, cond, T, List, [], ◌∷◌, ◌++◌, map, Some, None, Option, sym, refl, ap, ◌∙◌, subst, append-nil}
 use Rattle.automata.specs.Steps.{onward}
 use Rattle.automata.specs.Arena.{Arena}
 use Rattle.automata.specs.Lawful.{LawfulArena}
@@ -25,14 +25,14 @@ planned_start A m e = go (broken A A.start) (ranked A 0 A.start) e
   where
     go : (b c : Bool) → cond b Groundless (cond c (Planned (rank A 0 A.start)) (Unplayable (lacking A A.start))) ≡ Planned m →
         T c × (rank A 0 A.start ≡ m)
-    go true c e = let z : ◌≡◌ {A = ℕ} 0 1 = cc in absurd (omega arith)
+    go true c e = absurd (cc)
     go false true e = (tt, cc)
-    go false false e = let z : ◌≡◌ {A = ℕ} 0 1 = cc in absurd (omega arith)
+    go false false e = absurd (cc)
 
 module _ (A : Arena) (L : LawfulArena A) where
   -- the answer to the first call of a run
   first_answer : (s : Stand) (left : List Call) (t : Answered) (behind : List Answered) → (t ∷ behind) ≡ runs A s left → t.answer ≡ answer_at A s t.call
-  first_answer s [] t behind e = let z : ◌≡◌ {A = ℕ} 0 1 = cc in absurd (omega arith)
+  first_answer s [] t behind e = absurd (cc)
   first_answer s (call ∷ left) t behind e =
       let same : t ≡ record { call = call; answer = answer_at A s call } = cc in
       ap (λ (t : Answered). t.answer) same ∙ sym (ap (λ (t : Answered). answer_at A s t.call) same)
@@ -77,7 +77,7 @@ module _ (A : Arena) (L : LawfulArena A) where
       where
         none_left : (d : Stand) (left : List Call) → [] ≡ runs A d left → stands A d left ≡ d
         none_left d [] e = refl
-        none_left d (call ∷ left) e = let z : ◌≡◌ {A = ℕ} 0 1 = cc in absurd (omega arith)
+        none_left d (call ∷ left) e = absurd (cc)
 
   -- answers by the causes from a drive on
   abbrev Told : Stand → List Answered → Type 0

@@ -24,13 +24,8 @@ fn drive_on(bytes: &[u8], entries: &mut [Entry]) -> Option<Drive>
     ensures { DrivesOn bytes.now entries.old entries.new result }
 {
     let mut sheet = Sheet::built_in();
-    match sheet.open(bytes) {
-        Ok(()) => match conduct(&sheet, entries) {
-            Ok(drive) => Some(drive),
-            Err(_) => None,
-        },
-        Err(_) => None,
-    }
+    sheet.open(bytes).ok()?;
+    conduct(&sheet, entries).ok()
 }
 
 // Plans an arena; where the verdict is planned, opens what was written, begins a drive on it and makes
@@ -54,18 +49,9 @@ pub fn assure<P: Arena>(
     ensures assured { Assured (arena_of P.Automaton P.Arena.own arena.now) buffer.new entries.old entries.new result }
 {
     let verdict = planner.plan(arena, buffer)?;
-    match verdict {
-        Verdict::Planned(_) => {
-            let drive = drive_on(buffer, entries);
-            Ok(Outcome { verdict, drive })
-        }
-        Verdict::Groundless => Ok(Outcome {
-            verdict,
-            drive: None,
-        }),
-        Verdict::Unplayable(_) => Ok(Outcome {
-            verdict,
-            drive: None,
-        }),
-    }
+    let drive = match verdict {
+        Verdict::Planned(_) => drive_on(buffer, entries),
+        Verdict::Groundless | Verdict::Unplayable(_) => None,
+    };
+    Ok(Outcome { verdict, drive })
 }

@@ -1,8 +1,10 @@
 // Calls of a drive, what they answer, and entries for them.
-ghost use Rattle.std.specs.Prelude.{◌≡◌};
+ghost use Rattle.std.specs.Prelude.{◌≡◌, Some};
 ghost use Rattle.assurance.specs.Answers.{answer_number};
+ghost use Rattle.assurance.specs.Calls.{call_word};
 
 use drives::refusal::Refusal;
+use std::fmt;
 
 #[derive(Clone, Copy)]
 pub enum Call {
@@ -10,6 +12,20 @@ pub enum Call {
     Command(u8),
     Claim(u8),
     Stop,
+}
+
+// A call prints as its word.
+impl fmt::Display for Call {
+    ghost output = { λ c. Some (call_word c) };
+
+    fn fmt<W: fmt::Write>(&self, f: &mut fmt::Formatter<W>) -> fmt::Result {
+        f.write_str(match self {
+            Call::Read(_) => "read",
+            Call::Command(_) => "command",
+            Call::Claim(_) => "claim",
+            Call::Stop => "stop",
+        })
+    }
 }
 
 #[derive(Clone, Copy)]

@@ -1,7 +1,6 @@
 // A drive begun on an opened sheet and run through a list of calls.
 ghost use Rattle.std.specs.Prelude.{◌≡◌};
-ghost use Rattle.sheets.specs.Format.{tables_of};
-ghost use Rattle.sheets.specs.Opened.{bytes_of};
+ghost use Rattle.sheets.specs.Opened.{tables};
 ghost use Rattle.assurance.specs.Conducted.{conducted, places, KeepsPromise};
 
 use crate::calls::Entry;
@@ -14,12 +13,10 @@ use sheets::Sheet;
 // Begins a drive and makes the calls of the entries in turn, each answer written into its place. Where
 // no drive begins, no place is touched.
 pub fn conduct(sheet: &Sheet, entries: &mut [Entry]) -> Result<Drive, Refusal>
-    ensures drive { result ≡ conducted (tables_of (bytes_of sheet.now)) entries.old }
-    ensures written { entries.new ≡ places (tables_of (bytes_of sheet.now)) entries.old }
-    ensures promise { KeepsPromise (tables_of (bytes_of sheet.now)) entries.old entries.new result }
+    ensures drive { result ≡ conducted (tables sheet.now) entries.old }
+    ensures written { entries.new ≡ places (tables sheet.now) entries.old }
+    ensures promise { KeepsPromise (tables sheet.now) entries.old entries.new result }
 {
-    match begin(sheet) {
-        Ok(between) => Ok(run_calls(sheet, Drive::Between(between), entries)),
-        Err(why) => Err(why),
-    }
+    let between = begin(sheet)?;
+    Ok(run_calls(sheet, Drive::Between(between), entries))
 }

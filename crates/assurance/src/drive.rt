@@ -1,12 +1,12 @@
 // A drive of any state, and a call made on it.
 ghost use Rattle.std.specs.Prelude.{◌≡◌};
-ghost use Rattle.sheets.specs.Format.{tables_of};
-ghost use Rattle.sheets.specs.Opened.{bytes_of};
-ghost use Rattle.assurance.specs.Made.{between_makes, waiting_makes, makes};
+ghost use Rattle.sheets.specs.Opened.{tables};
+ghost use Rattle.assurance.specs.Made.{settled, between_makes, waiting_makes, makes};
 
 use crate::calls::{Answer, Call};
 use drives::between::Between;
 use drives::ended::Ended;
+use drives::refusal::Refused;
 use drives::waiting::Waiting;
 use sheets::Sheet;
 
@@ -17,36 +17,43 @@ pub enum Drive {
     Ended(Ended),
 }
 
+// What a call on a drive came to: performed, the drive is the next one; refused, it is as it was.
+fn settled<S: Drop, N, W, T>(made: Result<N, Refused<S>>, was: W, next: T) -> (Drive, Answer)
+where
+    W: FnOnce(S) -> Drive + Drop,
+    T: FnOnce(N) -> Drive + Drop,
+    requires was { W.IsAlwaysCallable was }
+    requires next { T.IsAlwaysCallable next }
+    ensures { (w : S → Drive) (n : N → Drive) → ((s : S) (d : Drive) → W.post was s d → d ≡ w s) → ((s : N) (d : Drive) → T.post next s d → d ≡ n s) → result ≡ settled w n made }
+{
+    match made {
+        Ok(state) => (next(state), Answer::Performed),
+        Err(refused) => (was(refused.state), Answer::Refused(refused.why)),
+    }
+}
+
 // Makes a call on a drive between rounds, which admits all but a command: a reading comes first.
 fn make_between(drive: Between, sheet: &Sheet, call: Call) -> (Drive, Answer)
-    ensures { result ≡ between_makes (tables_of (bytes_of sheet.now)) drive call }
+    ensures { result ≡ between_makes (tables sheet.now) drive call }
 {
     match call {
-        Call::Read(reading) => match drive.read(sheet, reading) {
-            Ok(next) => (Drive::Waiting(next), Answer::Performed),
-            Err(refused) => (Drive::Between(refused.state), Answer::Refused(refused.why)),
-        },
+        Call::Read(reading) => settled(drive.read(sheet, reading), Drive::Between, Drive::Waiting),
         Call::Command(_) => (Drive::Between(drive), Answer::NotAdmitted),
-        Call::Claim(right) => match drive.claim(sheet, right) {
-            Ok(next) => (Drive::Between(next), Answer::Performed),
-            Err(refused) => (Drive::Between(refused.state), Answer::Refused(refused.why)),
-        },
-        Call::Stop => match drive.stop(sheet) {
-            Ok(next) => (Drive::Ended(next), Answer::Performed),
-            Err(refused) => (Drive::Between(refused.state), Answer::Refused(refused.why)),
-        },
+        Call::Claim(right) => settled(drive.claim(sheet, right), Drive::Between, Drive::Between),
+        Call::Stop => settled(drive.stop(sheet), Drive::Between, Drive::Ended),
     }
 }
 
 // Makes a call on a drive whose reading waits, which admits nothing but the command for it.
 fn make_waiting(drive: Waiting, sheet: &Sheet, call: Call) -> (Drive, Answer)
-    ensures { result ≡ waiting_makes (tables_of (bytes_of sheet.now)) drive call }
+    ensures { result ≡ waiting_makes (tables sheet.now) drive call }
 {
     match call {
-        Call::Command(command) => match drive.command(sheet, command) {
-            Ok(next) => (Drive::Between(next), Answer::Performed),
-            Err(refused) => (Drive::Waiting(refused.state), Answer::Refused(refused.why)),
-        },
+        Call::Command(command) => settled(
+            drive.command(sheet, command),
+            Drive::Waiting,
+            Drive::Between,
+        ),
         Call::Read(_) | Call::Claim(_) | Call::Stop => (Drive::Waiting(drive), Answer::NotAdmitted),
     }
 }
@@ -54,7 +61,7 @@ fn make_waiting(drive: Waiting, sheet: &Sheet, call: Call) -> (Drive, Answer)
 impl Drive {
     // Makes a call. One that the drive does not admit as it stands leaves it.
     pub fn make(self, sheet: &Sheet, call: Call) -> (Drive, Answer)
-        ensures { result ≡ makes (tables_of (bytes_of sheet.now)) self call }
+        ensures { result ≡ makes (tables sheet.now) self call }
     {
         match self {
             Drive::Between(drive) => make_between(drive, sheet, call),

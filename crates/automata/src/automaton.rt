@@ -36,6 +36,8 @@ pub trait Automaton {
     fn step(&self, q: u16, x: u8, y: u8) -> Option<u16>
         ensures { result ≡ step self.now q x y };
 
+    // Each impl proves the laws, most of them by search, and writes them out: a default would be one
+    // proof for all impls.
     ghost narrow: { (s : Self) → (a s ≤ 3) × (b s ≤ 3) };
 
     ghost sized: { (s : Self) → (1 ≤ n s) × (n s ≤ 257) };

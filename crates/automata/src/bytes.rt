@@ -13,7 +13,7 @@ impl<'a> Bytes for &'a [u8] {
     ghost list = { λ s. s.now };
 
     fn at(&self, i: usize) -> u8 {
-        if i < self.len() { self[i] } else { 0 }
+        self.get(i).copied().unwrap_or(0)
     }
 }
 

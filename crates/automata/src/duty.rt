@@ -2,14 +2,14 @@
 ghost use Rattle.std.specs.Prelude.{◌≡◌, ◌*◌, ◌/◌, ◌%◌, ◌≤◌, false, nat_le};
 ghost use Rattle.automata.specs.Walks.{Carries};
 ghost use Rattle.automata.specs.Machine.{machine_of};
-ghost use Rattle.automata.specs.Layers.{with_duty};
+ghost use Rattle.automata.specs.Layers.{duty_fits, with_duty};
 ghost use Rattle.std.proofs.lemmas.Bool.{leb-true};
 ghost use Rattle.automata.specs.PairLaws.{pair_sized, pair_begins, pair_enters, pair_outside};
 ghost use Rattle.std.proofs.Common.{rules};
 
 use crate::arena::Arena;
 use crate::automaton::Automaton;
-use crate::pairs::{pair_start, pair_step, product};
+use crate::pairs::{pair_count, pair_start, pair_step, product};
 
 #[derive(Drop)]
 pub struct WithDuty<G, D> {
@@ -25,6 +25,12 @@ impl<G: Automaton, D: Automaton> WithDuty<G, D> {
         ensures carries { G.Automaton.n terrain * D.Automaton.n duty ≤ 256 → Carries (machine_of G.Automaton terrain) (machine_of D.Automaton duty) }
     {
         WithDuty { terrain, duty }
+    }
+
+    fn fits(&self) -> bool
+        ensures { result ≡ duty_fits (machine_of G.Automaton self.now.terrain) (machine_of D.Automaton self.now.duty) }
+    {
+        product(&self.terrain, &self.duty) <= 256
     }
 }
 
@@ -84,29 +90,21 @@ impl<G: Automaton, D: Automaton> Automaton for WithDuty<G, D> {
     }
 
     fn count(&self) -> u16 {
-        let n = product(&self.terrain, &self.duty);
-        if n <= 256 { n as u16 } else { 257 }
+        pair_count(self.fits(), &self.terrain, &self.duty)
     }
 
     fn start(&self) -> u16 {
-        if product(&self.terrain, &self.duty) <= 256 {
-            pair_start(&self.terrain, &self.duty)
-        } else {
-            0
-        }
+        pair_start(self.fits(), &self.terrain, &self.duty)
     }
 
     fn marked(&self, q: u16) -> bool {
-        let n = product(&self.terrain, &self.duty);
-        n <= 256 && (q as u32) < n && self.duty.marked(q % self.duty.count())
+        self.fits()
+            && (q as u32) < product(&self.terrain, &self.duty)
+            && self.duty.marked(q % self.duty.count())
     }
 
     fn step(&self, q: u16, x: u8, y: u8) -> Option<u16> {
-        if product(&self.terrain, &self.duty) <= 256 {
-            pair_step(&self.terrain, &self.duty, q, x, y)
-        } else {
-            None
-        }
+        pair_step(self.fits(), &self.terrain, &self.duty, q, x, y)
     }
 }
 

@@ -1,13 +1,12 @@
 // The arena of a flat job, over the job's bytes.
-ghost use Rattle.std.specs.Prelude.{◌≡◌, ℕ};
 ghost use Rattle.automata.specs.Flat.{flat_arena};
 ghost use Rattle.std.proofs.Common.{rules};
 
 use crate::arena::Arena;
 use crate::automaton::Automaton;
-use crate::bits::has_bit;
 use crate::bytes::Bytes;
 use crate::header::FlatHeader;
+use ranges::bits::has_bit;
 
 #[derive(Drop)]
 pub struct Flat<B> {
@@ -16,13 +15,13 @@ pub struct Flat<B> {
 }
 
 impl<B: Bytes> Automaton for Flat<B> {
-    ghost a = { λ s. s.header.reading_bits };
+    ghost a = { λ s. s.header.shape.reading_bits };
 
-    ghost b = { λ s. s.header.command_bits };
+    ghost b = { λ s. s.header.shape.command_bits };
 
-    ghost n = { λ s. s.header.count };
+    ghost n = { λ s. s.header.shape.count };
 
-    ghost start = { λ s. s.header.start };
+    ghost start = { λ s. s.header.shape.start };
 
     ghost marked = { λ s. (flat_arena s.header (B.Bytes.list s.bytes)).marked };
 
@@ -51,39 +50,28 @@ impl<B: Bytes> Automaton for Flat<B> {
     ghost full_mark = { Prim.search rules };
 
     fn reading_bits(&self) -> u8 {
-        self.header.reading_bits
+        self.header.shape.reading_bits
     }
 
     fn command_bits(&self) -> u8 {
-        self.header.command_bits
+        self.header.shape.command_bits
     }
 
     fn count(&self) -> u16 {
-        self.header.count as u16
+        self.header.shape.count as u16
     }
 
     fn start(&self) -> u16 {
-        self.header.start as u16
+        self.header.shape.start as u16
     }
 
     fn marked(&self, q: u16) -> bool {
-        q < self.header.count as u16 && has_bit(self.bytes.at(8 + q as usize), 0)
+        q < self.header.shape.count as u16 && has_bit(self.bytes.at(8 + q as usize), 0)
     }
 
     fn step(&self, q: u16, x: u8, y: u8) -> Option<u16> {
-        let count = self.header.count as usize;
-        let readings: usize = 1 << self.header.reading_bits;
-        let commands: usize = 1 << self.header.command_bits;
-        let (q, x, y) = (q as usize, x as usize, y as usize);
-        if q >= count || x >= readings || y >= commands {
-            return None;
-        }
-        let target = self.bytes.at(8 + count + (q * readings + x) * commands + y);
-        if target < self.header.count {
-            Some(target as u16)
-        } else {
-            None
-        }
+        let shape = &self.header.shape;
+        shape.step(&self.bytes, 8 + shape.count, q, x, y)
     }
 }
 
@@ -109,7 +97,7 @@ impl<B: Bytes> Arena for Flat<B> {
     fn right(&self, i: u8, q: u16) -> bool {
         1 <= i
             && i <= self.header.rights
-            && q < self.header.count as u16
+            && q < self.header.shape.count as u16
             && has_bit(self.bytes.at(8 + q as usize), i)
     }
 }

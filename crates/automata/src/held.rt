@@ -76,11 +76,7 @@ impl<A: Automaton> Automaton for Held<A> {
             return 0;
         }
         let q = self.below.start();
-        if self.below.marked(q) {
-            2 * q + 1
-        } else {
-            2 * q
-        }
+        2 * q + u16::from(self.below.marked(q))
     }
 
     fn marked(&self, q: u16) -> bool {
@@ -92,15 +88,11 @@ impl<A: Automaton> Automaton for Held<A> {
         if self.below.count() > 128 {
             return None;
         }
-        match self.below.step(q / 2, x, y) {
-            None => None,
-            Some(t) => {
-                if self.below.marked(t) {
-                    Some(2 * t + 1)
-                } else {
-                    Some(2 * t + q % 2)
-                }
-            }
+        let t = self.below.step(q / 2, x, y)?;
+        if self.below.marked(t) {
+            Some(2 * t + 1)
+        } else {
+            Some(2 * t + q % 2)
         }
     }
 }

@@ -3,7 +3,6 @@
 
 pub mod arena;
 pub mod automaton;
-pub mod bits;
 pub mod bytes;
 pub mod duty;
 pub mod flat;

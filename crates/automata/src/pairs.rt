@@ -1,5 +1,6 @@
-// What the pairs of automata share: state p · n + r, n being the second part's count.
-ghost use Rattle.std.specs.Prelude.{◌≡◌, ℕ, ◌+◌, ◌*◌, ◌/◌, ◌%◌, ◌≤◌};
+// What the pairs of automata share: state p · n + r, n being the second part's count. A pair that
+// fits has at most 256 states.
+ghost use Rattle.std.specs.Prelude.{◌≡◌, ◌+◌, ◌*◌, ◌/◌, ◌%◌, ◌≤◌, true, if◌then◌else◌, None};
 ghost use Rattle.automata.specs.Layers.{both};
 
 use crate::automaton::Automaton;
@@ -11,33 +12,40 @@ pub(crate) fn product<P: Automaton, R: Automaton>(p: &P, r: &R) -> u32
     p.count() as u32 * r.count() as u32
 }
 
-// The start of a pair whose states are few enough.
-pub(crate) fn pair_start<P: Automaton, R: Automaton>(p: &P, r: &R) -> u16
-    requires { P.Automaton.n p.now * R.Automaton.n r.now ≤ 256 }
-    ensures { result ≡ P.Automaton.start p.now * R.Automaton.n r.now + R.Automaton.start r.now }
+pub(crate) fn pair_count<P: Automaton, R: Automaton>(fits: bool, p: &P, r: &R) -> u16
+    requires { fits ≡ true → P.Automaton.n p.now * R.Automaton.n r.now ≤ 256 }
+    ensures { result ≡ (if fits then P.Automaton.n p.now * R.Automaton.n r.now else 257) }
 {
-    p.start() * r.count() + r.start()
+    if fits { product(p, r) as u16 } else { 257 }
 }
 
-// The step of a pair whose states are few enough.
+pub(crate) fn pair_start<P: Automaton, R: Automaton>(fits: bool, p: &P, r: &R) -> u16
+    requires { fits ≡ true → P.Automaton.n p.now * R.Automaton.n r.now ≤ 256 }
+    ensures { result ≡ (if fits then P.Automaton.start p.now * R.Automaton.n r.now + R.Automaton.start r.now else 0) }
+{
+    if fits {
+        p.start() * r.count() + r.start()
+    } else {
+        0
+    }
+}
+
 pub(crate) fn pair_step<P: Automaton, R: Automaton>(
+    fits: bool,
     p: &P,
     r: &R,
     q: u16,
     x: u8,
     y: u8,
 ) -> Option<u16>
-    requires { P.Automaton.n p.now * R.Automaton.n r.now ≤ 256 }
-    ensures { result ≡ both (R.Automaton.n r.now) (P.Automaton.step p.now (q / R.Automaton.n r.now) x y) (R.Automaton.step r.now (q % R.Automaton.n r.now) x y) }
+    requires { fits ≡ true → P.Automaton.n p.now * R.Automaton.n r.now ≤ 256 }
+    ensures { result ≡ (if fits then both (R.Automaton.n r.now) (P.Automaton.step p.now (q / R.Automaton.n r.now) x y) (R.Automaton.step r.now (q % R.Automaton.n r.now) x y) else None) }
 {
-    let n = r.count();
-    let left = p.step(q / n, x, y);
-    let right = r.step(q % n, x, y);
-    match left {
-        None => None,
-        Some(s) => match right {
-            None => None,
-            Some(t) => Some(s * n + t),
-        },
+    if !fits {
+        return None;
     }
+    let n = r.count();
+    let s = p.step(q / n, x, y)?;
+    let t = r.step(q % n, x, y)?;
+    Some(s * n + t)
 }

@@ -10,7 +10,7 @@ ghost use Rattle.std.proofs.Common.{rules};
 
 use crate::arena::Arena;
 use crate::automaton::Automaton;
-use crate::pairs::{pair_start, pair_step, product};
+use crate::pairs::{pair_count, pair_start, pair_step, product};
 
 #[derive(Drop)]
 pub struct WithRight<P, R> {
@@ -27,13 +27,13 @@ impl<P: Arena, R: Automaton> WithRight<P, R> {
     {
         WithRight { arena, right }
     }
-}
 
-// Whether the pair has few enough states and rights.
-fn fits<P: Arena, R: Automaton>(arena: &P, right: &R) -> bool
-    ensures { result ≡ right_fits (arena_of P.Automaton P.Arena.own arena.now) (machine_of R.Automaton right.now) }
-{
-    product(arena, right) <= 256 && arena.rights() < 4
+    // Whether the pair has few enough states and rights.
+    fn fits(&self) -> bool
+        ensures { result ≡ right_fits (arena_of P.Automaton P.Arena.own self.now.arena) (machine_of R.Automaton self.now.right) }
+    {
+        product(&self.arena, &self.right) <= 256 && self.arena.rights() < 4
+    }
 }
 
 impl<P: Arena, R: Automaton> Automaton for WithRight<P, R> {
@@ -96,33 +96,21 @@ impl<P: Arena, R: Automaton> Automaton for WithRight<P, R> {
     }
 
     fn count(&self) -> u16 {
-        if fits(&self.arena, &self.right) {
-            product(&self.arena, &self.right) as u16
-        } else {
-            257
-        }
+        pair_count(self.fits(), &self.arena, &self.right)
     }
 
     fn start(&self) -> u16 {
-        if fits(&self.arena, &self.right) {
-            pair_start(&self.arena, &self.right)
-        } else {
-            0
-        }
+        pair_start(self.fits(), &self.arena, &self.right)
     }
 
     fn marked(&self, q: u16) -> bool {
-        fits(&self.arena, &self.right)
+        self.fits()
             && (q as u32) < product(&self.arena, &self.right)
             && self.arena.marked(q / self.right.count())
     }
 
     fn step(&self, q: u16, x: u8, y: u8) -> Option<u16> {
-        if fits(&self.arena, &self.right) {
-            pair_step(&self.arena, &self.right, q, x, y)
-        } else {
-            None
-        }
+        pair_step(self.fits(), &self.arena, &self.right, q, x, y)
     }
 }
 
@@ -142,7 +130,7 @@ impl<P: Arena, R: Automaton> Arena for WithRight<P, R> {
     ghost full_rights = { Prim.search rules };
 
     fn rights(&self) -> u8 {
-        if fits(&self.arena, &self.right) {
+        if self.fits() {
             self.arena.rights() + 1
         } else {
             0
@@ -150,7 +138,7 @@ impl<P: Arena, R: Automaton> Arena for WithRight<P, R> {
     }
 
     fn right(&self, i: u8, q: u16) -> bool {
-        if !fits(&self.arena, &self.right) || q as u32 >= product(&self.arena, &self.right) {
+        if !self.fits() || q as u32 >= product(&self.arena, &self.right) {
             return false;
         }
         if i == self.arena.rights() + 1 {

@@ -1,6 +1,5 @@
 // An automaton whose answers stand in bytes: a mark byte for each state, and then a step byte for
 // each state, reading and command.
-ghost use Rattle.std.specs.Prelude.{◌<◌, ◌≤◌};
 ghost use Rattle.automata.specs.Table.{table};
 ghost use Rattle.std.proofs.Common.{rules};
 
@@ -10,7 +9,7 @@ use crate::shape::Shape;
 
 #[derive(Drop)]
 pub struct Table<B> {
-    pub shape: Shape,
+    pub shape: Shape<64>,
     pub bytes: B,
 }
 
@@ -70,18 +69,6 @@ impl<B: Bytes> Automaton for Table<B> {
     }
 
     fn step(&self, q: u16, x: u8, y: u8) -> Option<u16> {
-        let count = self.shape.count as usize;
-        let readings: usize = 1 << self.shape.reading_bits;
-        let commands: usize = 1 << self.shape.command_bits;
-        let (q, x, y) = (q as usize, x as usize, y as usize);
-        if q >= count || x >= readings || y >= commands {
-            return None;
-        }
-        let target = self.bytes.at(count + (q * readings + x) * commands + y);
-        if target < self.shape.count {
-            Some(target as u16)
-        } else {
-            None
-        }
+        self.shape.step(&self.bytes, self.shape.count, q, x, y)
     }
 }

@@ -1,5 +1,5 @@
 // How many readings and commands an automaton has.
-ghost use Rattle.std.specs.Prelude.{◌≡◌, ℕ, ◌^◌};
+ghost use Rattle.std.specs.Prelude.{◌≡◌, ◌^◌};
 
 use crate::automaton::Automaton;
 

@@ -4,21 +4,15 @@
 // out otherwise, and for each kind a line with the counts.
 #![tactic(auto)]
 
-use games::solver::Solver;
 use std::alloc::Global;
-use std::fs;
+use std::{fmt, fs};
 
+mod answers;
 mod compare;
-mod drive_text;
-mod job_text;
-mod line;
-mod rule_text;
 mod vectors;
 
+use answers::{Planning, drive_answers, rule_answers};
 use compare::difference;
-use drive_text::drive_answers;
-use job_text::show_job;
-use rule_text::follow_rule;
 use vectors::{Case, read_cases};
 
 // The program whose input a vector is.
@@ -29,58 +23,71 @@ enum Kind {
     Drive,
 }
 
-impl Kind {
-    fn name(self) -> &'static str {
-        match self {
+impl fmt::Display for Kind {
+    fn fmt<W: fmt::Write>(&self, f: &mut fmt::Formatter<W>) -> fmt::Result {
+        f.write_str(match self {
             Kind::Plan => "plan",
             Kind::Rule => "rule",
             Kind::Drive => "drive",
-        }
+        })
     }
 }
 
 // What the library makes of an input.
-fn answer(heap: Global, solver: &mut Solver, kind: Kind, input: &str) -> anyhow::Result<String> {
+fn answer(
+    heap: Global,
+    planning: &mut Planning,
+    kind: Kind,
+    input: &str,
+) -> anyhow::Result<String> {
     match kind {
-        Kind::Plan => show_job(heap, solver, input),
-        Kind::Rule => follow_rule(heap, input),
+        Kind::Plan => planning.job_answer(heap, input),
+        Kind::Rule => rule_answers(heap, input),
         Kind::Drive => drive_answers(heap, input),
     }
 }
 
 // Whether the vector comes out otherwise; if so, prints the first line where.
-fn differs(rt: &HostRuntime, solver: &mut Solver, kind: Kind, case: &Case) -> anyhow::Result<bool> {
-    let made = answer(rt.alloc(), solver, kind, case.input.as_str())?;
+fn differs(
+    rt: &HostRuntime,
+    planning: &mut Planning,
+    kind: Kind,
+    case: &Case,
+) -> anyhow::Result<bool> {
+    let made = answer(rt.alloc(), planning, kind, case.input.as_str())?;
     let Some(lines) = difference(rt.alloc(), case.expected.as_str(), made.as_str())? else {
         return Ok(false);
     };
-    let kind = kind.name();
     let name = case.name.as_str();
     println!(rt; "{kind} {name} differs: {lines}")?;
     Ok(true)
 }
 
 // Runs the vectors of a file, and prints how many there are and how many come out otherwise.
-fn run_kind(rt: &HostRuntime, solver: &mut Solver, kind: Kind, path: &str) -> anyhow::Result<()> {
+fn run_kind(
+    rt: &HostRuntime,
+    planning: &mut Planning,
+    kind: Kind,
+    path: &str,
+) -> anyhow::Result<()> {
     let text = fs::read_to_string(rt, path)?;
     let cases = read_cases(rt.alloc(), text.as_str())?;
     let mut differences = 0u32;
     for case in cases.as_slice() {
-        if differs(rt, solver, kind, case)? {
+        if differs(rt, planning, kind, case)? {
             differences = differences.saturating_add(1);
         }
     }
     let count = cases.len();
-    let kind = kind.name();
     println!(rt; "{kind}: {count} cases, {differences} differences")?;
     Ok(())
 }
 
 fn run(rt: &HostRuntime) -> anyhow::Result<()> {
-    let mut solver = Solver::new(rt.alloc())?;
-    run_kind(rt, &mut solver, Kind::Plan, "plan.txt")?;
-    run_kind(rt, &mut solver, Kind::Rule, "rule.txt")?;
-    run_kind(rt, &mut solver, Kind::Drive, "drive.txt")
+    let mut planning = Planning::new(rt.alloc())?;
+    run_kind(rt, &mut planning, Kind::Plan, "plan.txt")?;
+    run_kind(rt, &mut planning, Kind::Rule, "rule.txt")?;
+    run_kind(rt, &mut planning, Kind::Drive, "drive.txt")
 }
 
 fn main(rt: HostRuntime) -> anyhow::Result<()> {

@@ -3,8 +3,7 @@
 #![tactic(auto)]
 
 ghost use Rattle.std.specs.Prelude.{◌≡◌};
-ghost use Rattle.sheets.specs.Format.{tables_of};
-ghost use Rattle.sheets.specs.Opened.{bytes_of};
+ghost use Rattle.sheets.specs.Opened.{tables};
 ghost use Rattle.drives.specs.Model.{begun};
 
 use crate::between::Between;
@@ -19,7 +18,7 @@ pub mod waiting;
 
 // A drive between rounds at the start, in column 0.
 pub fn begin(sheet: &Sheet) -> Result<Between, Refusal>
-    ensures { result ≡ begun (tables_of (bytes_of sheet.now)) }
+    ensures { result ≡ begun (tables sheet.now) }
 {
     let state = sheet.start();
     if sheet.rank(0, state) == 65535 {

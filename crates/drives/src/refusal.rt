@@ -1,6 +1,6 @@
 // Why a drive does not perform a call.
 ghost use Rattle.std.specs.Prelude.{◌≡◌};
-ghost use Rattle.drives.specs.Refusals.{refusal_number, refused};
+ghost use Rattle.drives.specs.Refusals.{refusal_number};
 
 #[derive(Clone, Copy, PartialEq, Eq, Debug)]
 pub enum Refusal {
@@ -52,12 +52,4 @@ impl Refusal {
 pub struct Refused<S> {
     pub state: S,
     pub why: Refusal,
-}
-
-impl<S> Refused<S> {
-    pub(crate) fn new(state: S, why: Refusal) -> Refused<S>
-        ensures { result ≡ refused state why }
-    {
-        Refused { state, why }
-    }
 }

@@ -67,9 +67,6 @@ module _ (A : Arena) (L : LawfulArena A) (R M : ℕ → Bool) where
   plan_wins zero q g h t = (q, ends (and_l (R q) (M q) t) refl, and_r (R q) (M q) t)
   plan_wins (suc r) q g h t = go (T-dec (column A R M r q)) (plan_wins r)
     where
-      Wins : ℕ → ℕ → Ground → Type 0
-      Wins r q g = StopsIn A (λ s. T (R s)) (λ s. T (M s)) (plan_of A R M r q) g q
-
       go : T (column A R M r q) ⊎ (T (column A R M r q) → ⊥) →
           ((q : ℕ) (g : Ground) → LawfulGround A q g → T (column A R M r q) → StopsIn A (λ s. T (R s)) (λ s. T (M s)) (plan_of A R M r q) g q) →
           StopsIn A (λ s. T (R s)) (λ s. T (M s)) (plan_of A R M (suc r) q) g q
@@ -85,9 +82,6 @@ module _ (A : Arena) (L : LawfulArena A) (R M : ℕ → Bool) where
               let v = in_of _ (column A R M r) m.1 in
               let w = ih v.0 (after g (into A R M r q (g []))) (lawful_after A L q g h _ v.0 m.0 v.1) v.2 in
               (w.0, goes (and_l (R q) _ u) refl v.1 (subst (λ (z : ℕ). Play A (λ s. T (R s)) (plan_of A R M r z) (after g (into A R M r q (g []))) v.0 w.0) (sym (ap stepped v.1)) w.1), w.2)
-
-  abbrev ranked_in : ℕ → Bool
-  ranked_in q = column A R M A.n q
 
   -- at an unranked state of R some lawful reading has every command lead to unranked states
   pub held_off : (q : ℕ) → T (unbroken A q) → T (R q) → (T (column A R M A.n q) → ⊥) →

@@ -1,10 +1,8 @@
 -- The ground columns followed are a lawful ground that no plan overcomes; rights are open where ranked.
-use Rattle.std.proofs.Common.{◌≡◌, ℕ, zero, suc, ◌^◌, ◌<◌, ◌≤◌, not, ◌&&◌, T, ltb, ◌⊎◌, [], Some, Option, sym, refl, ap, ◌∙◌, subst, inl, inr, arith, ltb→lt, lt→ltb}
-use mathlib.Core.Path.{fun_ext}
+use Rattle.std.proofs.Common.{◌≡◌, ℕ, zero, suc, ◌^◌, ◌<◌, ◌≤◌, not, ◌&&◌, T, ltb, ◌⊎◌, [], Some, sym, refl, ap, ◌∙◌, subst, inl, inr, arith, ltb→lt, lt→ltb, rules}
 use native.Mathlib.Decide.{dec_lt}
 use Rattle.std.proofs.lemmas.Bool.{cond-true, cond-false}
 use Rattle.ranges.specs.Ranges.{all, least}
-use Rattle.automata.specs.Steps.{onward}
 use Rattle.automata.specs.Arena.{Arena}
 use Rattle.automata.specs.Lawful.{LawfulArena}
 use Rattle.games.specs.Plays.{Ground, after, LawfulGround, Plan, Play, ends, goes, Open, AllOpen, FulfilsAgainst, Fulfils}
@@ -13,7 +11,7 @@ use Rattle.games.specs.GroundColumns.{kept, holds_off, ground_byte}
 use Rattle.games.specs.Verdicts.{lacking}
 use Rattle.games.specs.Following.{turned, follows, followed}
 use Rattle.ranges.proofs.RangeLaws.{T-dec, T-eq, T_false, and_l, and_r, and_mk, not_mk, not_at, all_at, all_mk, least_passes, least_holds}
-use Rattle.games.proofs.GroundLaws.{in_of, none≢some, lawful_kept}
+use Rattle.games.proofs.GroundLaws.{in_of, lawful_kept}
 use Rattle.games.proofs.ColumnLaws.{play_map, plan_of, plan_wins, held_off, marked_ranked}
 
 module _ (A : Arena) (L : LawfulArena A) where
@@ -79,11 +77,8 @@ module _ (A : Arena) (L : LawfulArena A) where
       go zero q' l ub nr = lacking_kept q' ub nr
       go (suc j) q' l ub nr = (l, and_mk (unbroken A q') _ ub (not_mk _ nr))
 
-  follows_next : (i q y q' : ℕ) → A.step q (ground_byte A i q) y ≡ Some q' → after (follows A i q) y ≡ follows A (turned A i q') q'
-  follows_next i q y q' e = fun_ext (λ ys. ap (λ (o : Option ℕ). onward o 255 (λ q'. follows A (turned A i q') q' ys)) e)
-
   after_next : (g : Ground) (i q y q' : ℕ) → g ≡ follows A i q → A.step q (ground_byte A i q) y ≡ Some q' → after g y ≡ follows A (turned A i q') q'
-  after_next g i q y q' d e = ap (λ (g : Ground). after g y) d ∙ follows_next i q y q' e
+  after_next g i q y q' d e = search rules
 
   pub follows_lawful : (i q : ℕ) → i ≤ A.k → T (kept A i q) → LawfulGround A q (follows A i q)
   follows_lawful i q l t = lawful_kept A L (λ q g. (i : ℕ) × (i ≤ A.k) × T (kept A i q) × (g ≡ follows A i q)) next q (follows A i q) (i, l, t, refl)
@@ -95,11 +90,7 @@ module _ (A : Arena) (L : LawfulArena A) where
           (u.0, ap (λ (g : Ground). A.step q (g []) y) h.3 ∙ u.1, (turned A h.0 u.0, u.2, u.3, after_next g h.0 q y u.0 h.3 u.1))
 
   command_inside : (q x y q' : ℕ) → A.step q x y ≡ Some q' → y < 2 ^ A.b
-  command_inside q x y q' e = go (dec_lt y (2 ^ A.b))
-    where
-      go : Dec (y < 2 ^ A.b) → y < 2 ^ A.b
-      go (yes p) = p
-      go (no p) = absurd (none≢some _ q' (L.command_outside q x y (omega arith)) e)
+  command_inside q x y q' e = search rules
 
   -- no play against a right's column stops where the duty and the right are marked
   beaten_right : {P : ℕ → Type 0} {p : Plan} {g : Ground} {q q' : ℕ} → Play A P p g q q' → (j : ℕ) → suc j ≤ A.k → g ≡ follows A (suc j) q → T (kept A (suc j) q) →

@@ -2,6 +2,7 @@
 use Rattle.std.proofs.Common.{◌≡◌, ℕ, zero, suc, ◌^◌, ◌<◌, Bool, true, false, T, ◌⊎◌, [], ◌∷◌, Some, None, Option, sym, refl, ap, ◌∙◌, inl, inr, arith, pow_pos}
 use mathlib.Core.Path.{fun_ext}
 use native.Mathlib.Decide.{dec_lt}
+use Rattle.std.proofs.lemmas.Option.{none-some}
 use Rattle.ranges.specs.Ranges.{least}
 use Rattle.automata.specs.Steps.{onward}
 use Rattle.automata.specs.Arena.{Arena}
@@ -27,7 +28,7 @@ not_none_or_in None S f = absurd (f tt)
 not_none_or_in (Some q) S f = (q, refl, f)
 
 pub none≢some : (o : Option ℕ) (q : ℕ) → o ≡ None → o ≡ Some q → ⊥
-none≢some o q d e = let z : ◌≡◌ {A = ℕ} 0 1 = cc in omega arith
+none≢some o q d e = none-some q (sym d ∙ e)
 
 module _ (A : Arena) (L : LawfulArena A) where
   -- what is left of a lawful ground is lawful
@@ -95,7 +96,7 @@ module _ (A : Arena) (L : LawfulArena A) where
   pub lawful_kept : (Kept : ℕ → Ground → Type 0) →
       ((q : ℕ) (g : Ground) → Kept q g → (y : ℕ) → y < 2 ^ A.b → (q' : ℕ) × (A.step q (g []) y ≡ Some q') × Kept q' (after g y)) →
       (q : ℕ) (g : Ground) → Kept q g → LawfulGround A q g
-  lawful_kept Kept next q g h [] bs e = none≢some (Some q) q e refl
+  lawful_kept Kept next q g h [] bs e = none-some q (sym e)
   lawful_kept Kept next q g h (y ∷ ys) bs e =
       let u = next q g h y bs.0 in
       lawful_kept Kept next u.0 (after g y) u.2 ys bs.1 (rw u.1 at e)
@@ -122,7 +123,7 @@ module _ (A : Arena) (L : LawfulArena A) where
   first_then q x (y ∷ ys) = onward (A.step q x y) 0 (λ q'. safe q' ys)
 
   pub lawful_first : (q x : ℕ) → T (lawful A q x) → LawfulGround A q (first_then q x)
-  lawful_first q x t [] bs e = none≢some (Some q) q e refl
+  lawful_first q x t [] bs e = none-some q (sym e)
   lawful_first q x t (y ∷ ys) bs e =
       let v = in_of (A.step q x y) (unbroken A) (all_at (2 ^ A.b) _ (and_r (unbroken A q) _ t) y bs.0) in
       let same : after (first_then q x) y ≡ safe v.0 = fun_ext (λ zs. ap (λ (o : Option ℕ). onward o 0 (λ q'. safe q' zs)) v.1) in

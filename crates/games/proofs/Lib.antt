@@ -10,4 +10,3 @@ pub mod SettledLaws
 pub mod SolverLaws
 pub mod StageLaws
 pub mod TableLaws
-pub mod Written

@@ -1,7 +1,6 @@
 -- A verdict means what it says of grounds and plans.
-use Rattle.std.proofs.Common.{◌≡◌, ℕ, zero, suc, ◌^◌, ◌≤◌, Bool, false, cond, not, T, eqb, ltb, ◌⊎◌, ◌↔◌, List, [], ◌∷◌, Option, sym, refl, ap, ◌∙◌, subst, inl, inr, arith, pow_mono}
-use mathlib.Core.Path.{fun_ext}
-use Rattle.std.proofs.lemmas.Bool.{eq-eqb, ne_eqb, cond-true, cond-false}
+use Rattle.std.proofs.Common.{◌≡◌, ℕ, zero, suc, ◌^◌, ◌≤◌, Bool, false, cond, not, T, eqb, ltb, ◌⊎◌, ◌↔◌, List, [], ◌∷◌, Option, sym, refl, ap, ◌∙◌, subst, inl, inr, arith, pow_mono, rules}
+use Rattle.std.proofs.lemmas.Bool.{eq-eqb, ne_eqb, cond-false}
 use Rattle.ranges.specs.Ranges.{least}
 use Rattle.automata.specs.Steps.{onward}
 use Rattle.automata.specs.Arena.{Arena}
@@ -18,17 +17,17 @@ use Rattle.games.proofs.GroundLaws.{ground_unbroken, ground_lawful, safe, safe_l
 use Rattle.games.proofs.FollowLaws.{kept_unbroken, byte_holds_off, keeps, start_kept, followed_lawful, followed_beats, open_ranked, ranked_open, ranked_fulfils}
 
 least_same : (m : ℕ) (f g : ℕ → Bool) → ((x : ℕ) → f x ≡ g x) → least m f ≡ least m g
-least_same m f g h = ap (least m) (fun_ext h)
+least_same m f g h = search rules
 
 module _ (A : Arena) where
   is_groundless : T (broken A A.start) → verdict A ≡ Groundless
-  is_groundless t = cond-true _ Groundless _ (T-eq _ t)
+  is_groundless t = search rules
 
   is_planned : T (unbroken A A.start) → T (ranked A 0 A.start) → verdict A ≡ Planned (rank A 0 A.start)
-  is_planned u t = cond-false _ Groundless _ (T_false _ (not_at _ u)) ∙ cond-true _ _ (Unplayable (lacking A A.start)) (T-eq _ t)
+  is_planned u t = search rules
 
   is_unplayable : T (unbroken A A.start) → (T (ranked A 0 A.start) → ⊥) → verdict A ≡ Unplayable (lacking A A.start)
-  is_unplayable u f = cond-false _ Groundless _ (T_false _ (not_at _ u)) ∙ cond-false _ (Planned (rank A 0 A.start)) _ (T_false _ f)
+  is_unplayable u f = search rules
 
 module _ (A : Arena) (L : LawfulArena A) where
   groundless_exactly : (verdict A ≡ Groundless) ↔ (SomeLawfulGround A → ⊥)
@@ -42,18 +41,12 @@ module _ (A : Arena) (L : LawfulArena A) where
       )
         where
           pick : T (ranked A 0 A.start) ⊎ (T (ranked A 0 A.start) → ⊥) → verdict A ≡ Groundless → ⊥
-          pick (inl s) e = let d = is_planned A (not_mk _ t) s in let z : ◌≡◌ {A = ℕ} 0 1 = cc (d, e) in omega arith
-          pick (inr s) e = let d = is_unplayable A (not_mk _ t) s in let z : ◌≡◌ {A = ℕ} 0 1 = cc (d, e) in omega arith
+          pick (inl s) e = let d = is_planned A (not_mk _ t) s in cc (d, e)
+          pick (inr s) e = let d = is_unplayable A (not_mk _ t) s in cc (d, e)
 
   -- an unplayable verdict says that the start is unbroken and has no rank in column 0
   unplayable_start : IsUnplayable A → T (unbroken A A.start) × (T (ranked A 0 A.start) → ⊥)
-  unplayable_start u = go (T-dec (broken A A.start)) (T-dec (ranked A 0 A.start))
-    where
-      go : T (broken A A.start) ⊎ (T (broken A A.start) → ⊥) → T (ranked A 0 A.start) ⊎ (T (ranked A 0 A.start) → ⊥) →
-          T (unbroken A A.start) × (T (ranked A 0 A.start) → ⊥)
-      go (inl t) s = let d = is_groundless A t in let e = u.1 in let z : ◌≡◌ {A = ℕ} 0 1 = cc (d, e) in absurd (omega arith)
-      go (inr t) (inl s) = let d = is_planned A (not_mk _ t) s in let e = u.1 in let z : ◌≡◌ {A = ℕ} 0 1 = cc (d, e) in absurd (omega arith)
-      go (inr t) (inr s) = (not_mk _ t, s)
+  unplayable_start u = search rules
 
   module _ (s : SomeLawfulGround A) where
     start_unbroken : T (unbroken A A.start)
@@ -76,7 +69,7 @@ module _ (A : Arena) (L : LawfulArena A) where
           where
             go : T (ranked A 0 A.start) ⊎ (T (ranked A 0 A.start) → ⊥) → (p : Plan) × Fulfils A p
             go (inl t) = ranked_fulfils A L t
-            go (inr t) = let d = is_unplayable A start_unbroken t in let e = u.1 in let z : ◌≡◌ {A = ℕ} 0 1 = cc (d, e) in absurd (omega arith)
+            go (inr t) = let d = is_unplayable A start_unbroken t in let e = u.1 in absurd (cc (d, e))
 
         back : (p : Plan) × Fulfils A p → IsPlanned A
         back f = go (T-dec (ranked A 0 A.start))

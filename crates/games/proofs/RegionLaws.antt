@@ -1,12 +1,13 @@
 -- The regions of an arena, from lists of ranks.
-use Rattle.std.proofs.Common.{◌≡◌, ℕ, zero, suc, ◌+◌, ◌*◌, ◌^◌, ◌<◌, ◌≤◌, Bool, true, false, not, ◌&&◌, T, eqb, ltb, ◌⊎◌, List, get_or, sym, refl, ap, ◌∙◌, ap₂, subst₂, inl, inr, arith, pow_pos}
+use Rattle.std.proofs.Common.{◌≡◌, ℕ, zero, suc, ◌^◌, ◌<◌, ◌≤◌, Bool, true, false, not, ◌&&◌, T, eqb, ltb, ◌⊎◌, List, [], get_or, sym, refl, ap, ◌∙◌, ap₂, subst₂, inl, inr, arith, pow_pos}
 use mathlib.Core.Path.{fun_ext}
+use Rattle.std.proofs.Math.Bool.{not-not}
 use Rattle.std.proofs.lemmas.Bool.{cases_lt, le-ltb, lt-ltb, and_left, eq-eqb, ne_eqb}
 use Rattle.ranges.specs.Ranges.{all}
 use Rattle.automata.specs.Arena.{Arena}
 use Rattle.automata.specs.Lawful.{LawfulArena}
 use Rattle.ranges.proofs.RangeLaws.{T-eq, T_true, false_T, and_l, or_case, all_mk, any_mk, least_bound}
-use Rattle.games.specs.Search.{stage, rank_of, Ranks}
+use Rattle.games.specs.Search.{stage, rank_of, RanksAt}
 use Rattle.games.specs.Regions.{nowhere, breaks, broken, unbroken, lawful_by, forces_by, forces, right_column, fence, ranked, rank}
 use Rattle.games.specs.Found.{BrokenFound, ColumnFound, RightsFound}
 use Rattle.games.proofs.StageLaws.{stage_up, rank_ranked, rank_unranked}
@@ -25,10 +26,6 @@ rank_lacks n first joins q small = go (stage first joins n q) refl
         rw (rank_ranked n first joins q (T_true _ e))
         (ne_eqb _ 65535 (λ z. omega (arith, least_bound n (λ r. stage first joins r q))) ∙ sym (ap not e))
     go false e = rw (rank_unranked n first joins q (false_T _ e)) (eq-eqb 65535 65535 refl ∙ sym (ap not e))
-
-pub not_not : (b : Bool) → not (not b) ≡ b
-not_not true = refl
-not_not false = refl
 
 module _ (A : Arena) (L : LawfulArena A) where
   -- a state out of range is broken
@@ -58,25 +55,25 @@ module _ (A : Arena) (L : LawfulArena A) where
     unranked_is = fun_ext unranked_at
 
     pub right_found : (j : ℕ) (row : List ℕ) (n i : ℕ) → n ≡ A.n → i ≡ suc j →
-        Ranks A.n (λ q. (ltb q n && eqb (get_or ranks q 0) 65535) && (A.marked q && A.right i q))
+        RanksAt A.n (λ q. (ltb q n && eqb (get_or ranks q 0) 65535) && (A.marked q && A.right i q))
         (λ S q. (ltb q n && eqb (get_or ranks q 0) 65535) && forces_by A (lawful_by A (λ q. ltb q n && eqb (get_or ranks q 0) 65535)) S q) row →
         ColumnFound A (suc j) row
     right_found j row n i en ei r =
-        let Rule : (ℕ → Bool) → ℕ → Type 0 = λ U i. Ranks A.n (λ q. U q && (A.marked q && A.right i q)) (λ S q. U q && forces_by A (lawful_by A U) S q) row in
+        let Rule : (ℕ → Bool) → ℕ → Type 0 = λ U i. RanksAt A.n (λ q. U q && (A.marked q && A.right i q)) (λ S q. U q && forces_by A (lawful_by A U) S q) row in
         let un : ℕ → ℕ → Bool = λ m q. ltb q m && eqb (get_or ranks q 0) 65535 in
         let U : un n ≡ unbroken A = ap un en ∙ unranked_is in
-        (subst₂ Rule U ei r).rank
+        subst₂ Rule U ei r
 
-    module _ (rights : List ℕ) (fenced : RightsFound A A.k rights) where
+    module _ (rights : List (List ℕ)) (fenced : RightsFound A A.k rights) where
       abbrev pub fenced_in : ℕ → Bool
-      fenced_in q = unranked q && all A.k (λ j. not (eqb (get_or rights (j * 256 + q) 0) 65535))
+      fenced_in q = unranked q && all A.k (λ j. not (eqb (get_or (get_or rights j []) q 0) 65535))
 
       fenced_at : (q : ℕ) → fenced_in q ≡ fence A q
       fenced_at q = go (cases_lt q A.n)
         where
           go : (q < A.n) ⊎ (A.n ≤ q) → fenced_in q ≡ fence A q
           go (inl l) = ap₂ ◌&&◌ (unranked_at q) (all_same A.k _ _ (λ j h.
-              ap not (ap (λ v. eqb v 65535) (fenced j q (h, l)) ∙ rank_lacks_in (suc j) q) ∙ not_not (right_column A (suc j) A.n q)))
+              ap not (ap (λ v. eqb v 65535) (fenced j q (h, l)) ∙ rank_lacks_in (suc j) q) ∙ not-not (right_column A (suc j) A.n q)))
           go (inr l) =
               let e = ap not (broken_outside q l) in
               and_left (unranked q) _ (unranked_at q ∙ e) ∙ sym (and_left (unbroken A q) _ e)
@@ -85,16 +82,16 @@ module _ (A : Arena) (L : LawfulArena A) where
       fenced_is = fun_ext fenced_at
 
       pub duty_found : (row : List ℕ) (n k : ℕ) → n ≡ A.n → k ≡ A.k →
-          Ranks A.n (λ q. ((ltb q n && eqb (get_or ranks q 0) 65535) && all k (λ j. not (eqb (get_or rights (j * 256 + q) 0) 65535))) && A.marked q)
-          (λ S q. ((ltb q n && eqb (get_or ranks q 0) 65535) && all k (λ j. not (eqb (get_or rights (j * 256 + q) 0) 65535))) && forces_by A (lawful_by A (λ q. ltb q n && eqb (get_or ranks q 0) 65535)) S q) row →
+          RanksAt A.n (λ q. ((ltb q n && eqb (get_or ranks q 0) 65535) && all k (λ j. not (eqb (get_or (get_or rights j []) q 0) 65535))) && A.marked q)
+          (λ S q. ((ltb q n && eqb (get_or ranks q 0) 65535) && all k (λ j. not (eqb (get_or (get_or rights j []) q 0) 65535))) && forces_by A (lawful_by A (λ q. ltb q n && eqb (get_or ranks q 0) 65535)) S q) row →
           ColumnFound A 0 row
       duty_found row n k en ek r =
-          let Rule : (ℕ → Bool) → (ℕ → Bool) → Type 0 = λ U F. Ranks A.n (λ q. F q && A.marked q) (λ S q. F q && forces_by A (lawful_by A U) S q) row in
+          let Rule : (ℕ → Bool) → (ℕ → Bool) → Type 0 = λ U F. RanksAt A.n (λ q. F q && A.marked q) (λ S q. F q && forces_by A (lawful_by A U) S q) row in
           let un : ℕ → ℕ → Bool = λ m q. ltb q m && eqb (get_or ranks q 0) 65535 in
-          let fe : ℕ → ℕ → ℕ → Bool = λ m c q. un m q && all c (λ j. not (eqb (get_or rights (j * 256 + q) 0) 65535)) in
+          let fe : ℕ → ℕ → ℕ → Bool = λ m c q. un m q && all c (λ j. not (eqb (get_or (get_or rights j []) q 0) 65535)) in
           let U : un n ≡ unbroken A = ap un en ∙ unranked_is in
           let F : fe n k ≡ fence A = ap₂ fe en ek ∙ fenced_is in
-          (subst₂ Rule U F r).rank
+          subst₂ Rule U F r
 
 -- a column has only states of its set
 pub stage_in : (R M : ℕ → Bool) (J : (ℕ → Bool) → ℕ → Bool) (r q : ℕ) → T (stage (λ q. R q && M q) (λ S q. R q && J S q) r q) → T (R q)

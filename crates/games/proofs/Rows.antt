@@ -1,5 +1,5 @@
 -- The ranks of a staged search, stage by stage, as a list has them.
-use Rattle.std.proofs.Common.{◌≡◌, ℕ, zero, suc, ◌+◌, ◌<◌, ◌≤◌, Bool, true, false, cond, ◌&&◌, T, eqb, leb, ◌⊎◌, List, length, get_or, sym, refl, ap, ◌∙◌, subst, inl, inr, add-one, arith}
+use Rattle.std.proofs.Common.{◌≡◌, ℕ, zero, suc, ◌+◌, ◌<◌, ◌≤◌, Bool, true, false, ◌&&◌, T, eqb, leb, ◌⊎◌, List, length, get_or, sym, refl, ap, ◌∙◌, subst, inl, inr, add-one, arith}
 use native.Mathlib.Decide.{dec_lt}
 use Rattle.std.proofs.lemmas.Bool.{and_left, and_from, eq-eqb, ne_eqb, lt-ltb, cond-true, cond-false}
 use Rattle.ranges.specs.Ranges.{least}
@@ -16,13 +16,6 @@ module _ (n : ℕ) (first : ℕ → Bool) (joins : (ℕ → Bool) → ℕ → Bo
   pub record Row (ranks : List ℕ) (r : ℕ) : Type 0 where
     pub long : length ranks ≡ n
     pub rank : (q : ℕ) → q < n → get_or ranks q 0 ≡ rank_of r S q
-
-  pub row_start : (ranks : List ℕ) → length ranks ≡ n → ((q : ℕ) → q < n → get_or ranks q 0 ≡ cond (first q) 0 65535) → Row ranks 0
-  row_start ranks long h = record { long = long; rank = λ q l. h q l ∙ go (first q) }
-    where
-      go : (b : Bool) → ◌≡◌ {A = ℕ} (cond b 0 65535) (elim b [ true ↦ 0 | false ↦ 65535 ])
-      go true = refl
-      go false = refl
 
   module _ (mono : Monotone n joins) (ranks : List ℕ) (r : ℕ) (small : r < 65534) (row : Row ranks r) where
     -- the list puts the states of stage r in stage r

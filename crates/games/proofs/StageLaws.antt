@@ -1,10 +1,10 @@
 -- A staged search over n states with a monotone joining rule: stages grow, and after n of them none joins.
-use Rattle.std.proofs.Common.{◌≡◌, ℕ, zero, suc, ◌<◌, ◌≤◌, Bool, true, false, not, ◌||◌, T, leb, ◌⊎◌, sym, refl, ◌∙◌, subst, inl, inr, arith}
+use Rattle.std.proofs.Common.{◌≡◌, ℕ, zero, suc, ◌<◌, ◌≤◌, Bool, true, false, not, ◌||◌, T, leb, ◌⊎◌, sym, refl, ◌∙◌, subst, inl, inr, arith, rules}
 use native.Mathlib.Decide.{dec_le, dec_lt}
 use Rattle.std.proofs.lemmas.Bool.{le-leb, lt-leb}
 use Rattle.ranges.specs.Ranges.{all, least}
 use Rattle.games.specs.Search.{Within, Monotone, stage, rank_of}
-use Rattle.ranges.proofs.RangeLaws.{T-dec, T_true, T-eq, T_false, false_T, or_l, or_r, or_case, not_mk, not_at, all_at, not_all, least_passes, least_bound, least_holds, least_before, least_is, least_none}
+use Rattle.ranges.proofs.RangeLaws.{T-dec, T_true, false_T, or_l, or_r, or_case, not_mk, not_at, all_at, not_all, least_passes, least_bound, least_holds, least_before, least_is, least_none}
 use Rattle.games.proofs.CountLaws.{count, count_more, count_full}
 
 module _ (n : ℕ) (first : ℕ → Bool) (joins : (ℕ → Bool) → ℕ → Bool) where
@@ -44,11 +44,7 @@ module _ (n : ℕ) (first : ℕ → Bool) (joins : (ℕ → Bool) → ℕ → Bo
 
 module _ (n : ℕ) (first : ℕ → Bool) (joins : (ℕ → Bool) → ℕ → Bool) (mono : Monotone n joins) where
   pub closed_next : (r : ℕ) → Closed n first joins r → Closed n first joins (suc r)
-  closed_next r c q l t = go (or_case (stage first joins (suc r) q) (joins (stage first joins (suc r)) q) t)
-    where
-      go : T (stage first joins (suc r) q) ⊎ T (joins (stage first joins (suc r)) q) → T (stage first joins (suc r) q)
-      go (inl s) = s
-      go (inr s) = or_r (stage first joins r q) (joins (stage first joins r) q) (mono (stage first joins (suc r)) (stage first joins r) c q l s)
+  closed_next r c q l t = search rules
 
   closed_or_count : (r : ℕ) → Closed n first joins r ⊎ (r ≤ count n (stage first joins r))
   closed_or_count zero = inr (omega arith)
@@ -77,10 +73,10 @@ module _ (n : ℕ) (first : ℕ → Bool) (joins : (ℕ → Bool) → ℕ → Bo
 -- ranks
 module _ (n : ℕ) (first : ℕ → Bool) (joins : (ℕ → Bool) → ℕ → Bool) where
   pub rank_unranked : (q : ℕ) → (T (stage first joins n q) → ⊥) → rank_of n (stage first joins) q ≡ 65535
-  rank_unranked q f = rw (T_false (stage first joins n q) f, rank_of)
+  rank_unranked q f = search rules
 
   pub rank_ranked : (q : ℕ) → T (stage first joins n q) → rank_of n (stage first joins) q ≡ least n (λ r. stage first joins r q)
-  rank_ranked q t = rw (T-eq (stage first joins n q) t, rank_of)
+  rank_ranked q t = search rules
 
   pub rank_at_most : (r q : ℕ) → r ≤ n → T (stage first joins r q) → rank_of n (stage first joins) q ≤ r
   rank_at_most r q h t = rw (rank_ranked q (stage_up n first joins r n q h t)) (go (dec_lt r n))
@@ -108,14 +104,6 @@ module _ (n : ℕ) (first : ℕ → Bool) (joins : (ℕ → Bool) → ℕ → Bo
       go : T (stage first joins r q) ⊎ T (joins (stage first joins r) q) → T (joins (stage first joins r) q)
       go (inl s) = let m = rank_small q t in absurd (omega (arith, rank_at_most r q (omega arith) s))
       go (inr s) = s
-
-  -- a rank below some rank is one
-  pub rank_below : (q m : ℕ) → n < 65535 → m ≤ n → rank_of n (stage first joins) q < m → T (stage first joins n q)
-  rank_below q m big h l = go (T-dec (stage first joins n q))
-    where
-      go : T (stage first joins n q) ⊎ (T (stage first joins n q) → ⊥) → T (stage first joins n q)
-      go (inl s) = s
-      go (inr s) = absurd (omega (arith, rank_unranked q s))
 
 -- the next stage's ranks from those of this one
 module _ (first : ℕ → Bool) (joins : (ℕ → Bool) → ℕ → Bool) where
@@ -152,8 +140,4 @@ module _ (first : ℕ → Bool) (joins : (ℕ → Bool) → ℕ → Bool) where
 
   -- a state that does not join stays without
   pub rank_waits : (r q : ℕ) → (T (S r q) → ⊥) → (T (joins (S r) q) → ⊥) → rank_of (suc r) S q ≡ 65535
-  rank_waits r q f g = rank_unranked (suc r) first joins q (λ t. go (or_case (S r q) (joins (S r) q) t))
-    where
-      go : T (S r q) ⊎ T (joins (S r) q) → ⊥
-      go (inl s) = f s
-      go (inr s) = g s
+  rank_waits r q f g = search rules

@@ -30,9 +30,13 @@ abbrev pub ranked_by : List ℕ → ℕ → ℕ → Bool
 ranked_by ranks r q = nat_lt q (length ranks) && nat_le (slice_index ranks q) r
 
 -- a list has the rank of each of n states
+abbrev pub RanksAt : ℕ → (ℕ → Bool) → ((ℕ → Bool) → ℕ → Bool) → List ℕ → Type 0
+RanksAt n first joins ranks = (q : ℕ) → q < n → slice_index ranks q ≡ rank_of n (stage first joins) q
+
+-- and no place more
 pub record Ranks (n : ℕ) (first : ℕ → Bool) (joins : (ℕ → Bool) → ℕ → Bool) (ranks : List ℕ) : Type 0 where
   pub long : length ranks ≡ n
-  pub rank : (q : ℕ) → q < n → slice_index ranks q ≡ rank_of n (stage first joins) q
+  pub rank : RanksAt n first joins ranks
 
 -- what the search comes to rest at: no stage has a state that stage n lacks, and the states of
 -- stage n are exactly those of the first set and those that join given stage n itself

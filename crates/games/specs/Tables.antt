@@ -1,28 +1,37 @@
 -- The arena that a table holds.
-use Rattle.std.specs.Prelude.{ℕ, ◌+◌, ◌-◌, ◌*◌, ◌^◌, Bool, false, cond, ◌&&◌, List, None, vec_items, Option, nat_le, nat_lt, slice_index_or}
+use Rattle.std.specs.Prelude.{◌≡◌, ℕ, ◌+◌, ◌-◌, ◌^◌, ◌<◌, false, if◌then◌else◌, ◌&&◌, List, [], None, nat_le, nat_lt, slice_index_or}
 use Rattle.automata.specs.Steps.{named, onward}
 use Rattle.automata.specs.Arena.{Arena}
 use Rattle.games.specs.declared.table.Table.{Table}
+use Rattle.games.specs.declared.table.Row.{Row}
 
--- the arena of n states with a reading bits, b command bits and k rights that lists tell: the
--- duty's marks by state, the rights' by right and state, the steps by state, reading and command.
--- A stored step that is no state is none
-abbrev pub tabled : (a b n start k : ℕ) → List Bool → List Bool → List (Option ℕ) → Arena
-tabled a b n start k duty marks steps = record {
+-- a row in which nothing is marked and nothing is stored
+abbrev pub blank : Row
+blank = record { marked = false; rights = []; steps = [] }
+
+-- a row holds what an arena answers at the state q
+pub record Holds (A : Arena) (q : ℕ) (row : Row) : Type 0 where
+  pub marked : row.marked ≡ A.marked q
+  pub rights : (i : ℕ) → i < 4 → slice_index_or row.rights i false ≡ A.right (i + 1) q
+  pub steps : (x y : ℕ) → x < 8 → y < 8 → slice_index_or (slice_index_or row.steps x []) y None ≡ A.step q x y
+
+-- the arena of n states with a reading bits, b command bits and k rights that the rows of its
+-- states tell. A stored step that is no state is none
+abbrev pub tabled : (a b n start k : ℕ) → List Row → Arena
+tabled a b n start k rows = record {
   a = a;
   b = b;
   n = n;
   start = start;
   k = k;
-  marked = λ q. nat_lt q n && slice_index_or duty q false;
-  right = λ i q. nat_le 1 i && nat_le i k && nat_lt q n && slice_index_or marks ((i - 1) * 256 + q) false;
+  marked = λ q. nat_lt q n && (slice_index_or rows q blank).marked;
+  right = λ i q. nat_le 1 i && nat_le i k && nat_lt q n && slice_index_or (slice_index_or rows q blank).rights (i - 1) false;
   step = λ q x y.
-      cond (nat_lt q n && nat_lt x (2 ^ a) && nat_lt y (2 ^ b)) (onward (slice_index_or steps ((q * 8 + x) * 8 + y) None) None (named n)) None;
+      if nat_lt q n && nat_lt x (2 ^ a) && nat_lt y (2 ^ b) then onward (slice_index_or (slice_index_or (slice_index_or rows q blank).steps x []) y None) None (named n) else None;
 }
 
 abbrev pub table_arena : Table → Arena
-table_arena t =
-    tabled t.reading_bits t.command_bits t.count t.start t.rights (vec_items t.duty) (vec_items t.marks) (vec_items t.steps)
+table_arena t = tabled t.reading_bits t.command_bits t.count t.start t.rights t.rows.value
 
 -- one state, with no mark, no right and no step: what a table holds before it takes over an arena
 abbrev pub lone : Arena

@@ -1,5 +1,5 @@
 -- The verdict on an arena, with its number.
-use Rattle.std.specs.Prelude.{ℕ, zero, suc, cond, not, Ok, Err, Result, nat_le, nat_lt}
+use Rattle.std.specs.Prelude.{ℕ, zero, suc, cond, not, List, codes, Ok, Err, Result, nat_le, nat_lt}
 use Rattle.ranges.specs.Ranges.{least}
 use Rattle.automata.specs.Arena.{Arena}
 use Rattle.games.specs.Regions.{broken, right_column, ranked, rank}
@@ -20,6 +20,12 @@ abbrev pub verdict : Arena → Verdict
 verdict A =
     cond (broken A A.start) Groundless
     (cond (ranked A 0 A.start) (Planned (rank A 0 A.start)) (Unplayable (lacking A A.start)))
+
+-- how a verdict is printed
+abbrev pub verdict_word : Verdict → List ℕ
+verdict_word Groundless = codes "groundless"
+verdict_word (Planned rounds) = codes "planned"
+verdict_word (Unplayable right) = codes "unplayable"
 
 -- a verdict's number: the rounds of a plan, or the lost right, or 0
 abbrev pub verdict_number : Verdict → ℕ

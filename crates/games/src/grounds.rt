@@ -19,11 +19,11 @@ struct Lacking<'a> {
     column: u8,
 }
 
-impl<'a> States for Lacking<'a> {
+impl States for Lacking<'_> {
     ghost has = { λ s q. (rank_in (solver_arena s.solver.now) s.column q == 65535) };
 
     fn has(&self, q: u16) -> bool {
-        self.solver.rank(self.column, q) == 65535
+        self.solver.lacks(self.column, q)
     }
 }
 
@@ -44,7 +44,7 @@ impl Solver {
         requires { column ≤ (solver_arena self.now).k }
         ensures { result ≡ kept (solver_arena self.now) column q }
     {
-        self.is_in(column, q) & (self.rank(column, q) == 65535)
+        self.is_in(column, q) && self.lacks(column, q)
     }
 
     // Whether a reading is lawful and has every command step to a state that the column lacks.
@@ -52,16 +52,11 @@ impl Solver {
         requires { column ≤ (solver_arena self.now).k }
         ensures { result ≡ holds_off (solver_arena self.now) column q x }
     {
-        self.is_lawful(q, x)
-            & all_enter(
-                &self.table,
-                &Lacking {
-                    solver: self,
-                    column,
-                },
-                q,
-                x,
-            )
+        let lacking = Lacking {
+            solver: self,
+            column,
+        };
+        self.is_lawful(q, x) && all_enter(&self.table, &lacking, q, x)
     }
 
     // The lowest such reading, or the number of readings where there is none.
@@ -70,12 +65,9 @@ impl Solver {
         ensures { result ≡ least (2 ^ (solver_arena self.now).a) (holds_off (solver_arena self.now) column q) }
     {
         let count = readings(&self.table);
-        for x in 0..count {
-            if self.holds_off(column, q, x) {
-                return x;
-            }
-        }
-        count
+        (0..count)
+            .find(|x| self.holds_off(column, q, *x))
+            .unwrap_or(count)
     }
 
     // The byte of a ground column at a state: the reading by which the ground keeps the state

@@ -14,43 +14,28 @@ use automata::widths::{commands, readings};
 fn lands<P: Arena, S: States>(arena: &P, set: &S, none: bool, q: u16, x: u8, y: u8) -> bool
     ensures { result ≡ onward (P.Automaton.step arena.now q x y) none (S.States.has set.now) }
 {
-    match arena.step(q, x, y) {
-        None => none,
-        Some(t) => set.has(t),
-    }
+    arena.step(q, x, y).map_or(none, |t| set.has(t))
 }
 
 // Whether every command on the reading steps into the set.
 pub(crate) fn all_enter<P: Arena, S: States>(arena: &P, set: &S, q: u16, x: u8) -> bool
     ensures { result ≡ all (2 ^ P.Automaton.b arena.now) (λ y. onward (P.Automaton.step arena.now q x y) false (S.States.has set.now)) }
 {
-    let mut all = true;
-    for y in 0..commands(arena) {
-        all = lands(arena, set, false, q, x, y) & all;
-    }
-    all
+    (0..commands(arena)).all(|y| lands(arena, set, false, q, x, y))
 }
 
 // Whether some command on the reading steps into the set; `none` is the answer of one that steps to none.
 fn any_lands<P: Arena, S: States>(arena: &P, set: &S, none: bool, q: u16, x: u8) -> bool
     ensures { result ≡ any (2 ^ P.Automaton.b arena.now) (λ y. onward (P.Automaton.step arena.now q x y) none (S.States.has set.now)) }
 {
-    let mut any = false;
-    for y in 0..commands(arena) {
-        any = lands(arena, set, none, q, x, y) | any;
-    }
-    any
+    (0..commands(arena)).any(|y| lands(arena, set, none, q, x, y))
 }
 
 // Whether every reading has a command that steps to none or into the set.
 pub(crate) fn breaks<P: Arena, S: States>(arena: &P, set: &S, q: u16) -> bool
     ensures { result ≡ breaks (arena_of P.Automaton P.Arena.own arena.now) (S.States.has set.now) q }
 {
-    let mut all = true;
-    for x in 0..readings(arena) {
-        all = any_lands(arena, set, true, q, x) & all;
-    }
-    all
+    (0..readings(arena)).all(|x| any_lands(arena, set, true, q, x))
 }
 
 // Whether the reading is lawful at the state, `unbroken` being the unbroken states.
@@ -69,10 +54,7 @@ pub(crate) fn forces<P: Arena, U: States, S: States>(
 ) -> bool
     ensures { result ≡ forces_by (arena_of P.Automaton P.Arena.own arena.now) (lawful_by (arena_of P.Automaton P.Arena.own arena.now) (U.States.has unbroken.now)) (S.States.has set.now) q }
 {
-    let mut all = true;
-    for x in 0..readings(arena) {
-        let answered = !is_lawful(arena, unbroken, q, x) | any_lands(arena, set, false, q, x);
-        all = answered & all;
-    }
-    all
+    (0..readings(arena)).all(|x| {
+        !is_lawful(arena, unbroken, q, x) || any_lands(arena, set, false, q, x)
+    })
 }

@@ -37,6 +37,7 @@ fn pass<P: Arena, J: JoiningRule>(arena: &P, rule: &J, ranks: &mut [u16], stage:
     ensures passed { Passed (J.JoiningRule.joins rule.now (arena_of P.Automaton P.Arena.own arena.now)) ranks.old stage ranks.new }
     ensures still { result ≡ false → ranks.new ≡ ranks.old }
 {
+    // A loop, since it changes the ranks too, of which a chain would tell nothing.
     let mut any = false;
     for q in 0..arena.count() {
         any = visit(arena, rule, ranks, stage, q) | any;
@@ -49,9 +50,9 @@ fn seed<P: Arena, J: JoiningRule>(arena: &P, rule: &J, ranks: &mut [u16])
     requires long { length ranks.old ≡ P.Automaton.n arena.now }
     ensures { (q : ℕ) → q < length ranks.new → slice_index ranks.new q ≡ (if J.JoiningRule.first rule.now (arena_of P.Automaton P.Arena.own arena.now) q then 0 else 65535) }
 {
+    // By number: a state is a `u16`, an iterator's place a `usize`.
     for q in 0..arena.count() {
-        let rank = if rule.first(arena, q) { 0 } else { 65535 };
-        ranks[q as usize] = rank;
+        ranks[q as usize] = if rule.first(arena, q) { 0 } else { 65535 };
     }
 }
 

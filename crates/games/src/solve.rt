@@ -7,7 +7,7 @@ ghost use Rattle.games.specs.Tables.{lone};
 ghost use Rattle.games.specs.Solved.{solver_arena};
 ghost use Rattle.games.specs.Verdicts.{answer};
 
-use crate::regions::find_regions;
+use crate::regions::Regions;
 use crate::solver::Solver;
 use crate::table::Table;
 use crate::verdict::{GameFault, Verdict};
@@ -21,16 +21,8 @@ impl Solver {
         ensures { IfOk result (λ s. solver_arena s ≡ lone) }
     {
         let table = Table::new(heap)?;
-        let mut broken = vec![in heap; 65535; 256]?;
-        let mut rights = vec![in heap; 65535; 1024]?;
-        let mut duty = vec![in heap; 65535; 256]?;
-        find_regions(&table, &mut broken, &mut rights, &mut duty);
-        Ok(Solver {
-            table,
-            broken,
-            rights,
-            duty,
-        })
+        let regions = Regions::of(&table);
+        Ok(Solver { table, regions })
     }
 
     // Takes over an arena of at most 256 states and finds its regions.
@@ -39,12 +31,7 @@ impl Solver {
         ensures { solver_arena self.new ≡ arena_of P.Automaton P.Arena.own arena.now }
     {
         self.table.copy(arena);
-        find_regions(
-            &self.table,
-            &mut self.broken,
-            &mut self.rights,
-            &mut self.duty,
-        );
+        self.regions = Regions::of(&self.table);
     }
 
     // Takes over an arena, finds its regions, and answers the verdict on it. What the verdict means

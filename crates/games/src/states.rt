@@ -1,5 +1,5 @@
 // Sets of states.
-ghost use Rattle.std.specs.Prelude.{◌≡◌, ℕ, ◌+◌, ◌*◌, Bool, not, ◌&&◌, ◌==◌, nat_lt, slice_index};
+ghost use Rattle.std.specs.Prelude.{◌≡◌, ℕ, ◌≤◌, Bool, not, ◌&&◌, ◌==◌, nat_lt, [], slice_index, slice_index_or};
 ghost use Rattle.ranges.specs.Ranges.{all};
 ghost use Rattle.games.specs.Search.{ranked_by};
 
@@ -17,12 +17,14 @@ pub(crate) struct Stage<'a> {
     pub(crate) stage: u16,
 }
 
-impl<'a> States for Stage<'a> {
+impl States for Stage<'_> {
     ghost has = { λ s. ranked_by s.ranks.now s.stage };
 
     fn has(&self, q: u16) -> bool {
-        let i = q as usize;
-        i < self.ranks.len() && self.ranks[i] <= self.stage
+        let stage = self.stage;
+        self.ranks
+            .get(q as usize)
+            .is_some_and(|rank| *rank <= stage)
     }
 }
 
@@ -30,7 +32,7 @@ impl<'a> States for Stage<'a> {
 pub(crate) fn lacks(ranks: &[u16], i: usize) -> bool
     ensures { result ≡ (slice_index ranks.now i == 65535) }
 {
-    i < ranks.len() && ranks[i] == 65535
+    ranks.get(i) == Some(&65535)
 }
 
 // The states below the count that have no rank.
@@ -40,7 +42,7 @@ pub(crate) struct Unranked<'a> {
     pub(crate) count: u16,
 }
 
-impl<'a> States for Unranked<'a> {
+impl States for Unranked<'_> {
     ghost has = { λ s q. nat_lt q s.count && slice_index s.ranks.now q == 65535 };
 
     fn has(&self, q: u16) -> bool {
@@ -48,28 +50,26 @@ impl<'a> States for Unranked<'a> {
     }
 }
 
-// Whether a state has a rank in each of the first columns of a list that has 256 places to a column.
-pub(crate) fn in_all(ranks: &[u16], columns: u8, q: u16) -> bool
-    ensures { result ≡ all columns (λ j. not (slice_index ranks.now (j * 256 + q) == 65535)) }
+// Whether a state has a rank in each of the first columns.
+pub(crate) fn in_all(rights: &[[u16; 256]; 4], columns: u8, q: u16) -> bool
+    requires { columns ≤ 4 }
+    ensures { result ≡ all columns (λ j. not (slice_index (slice_index_or rights.now j []) q == 65535)) }
 {
-    let mut all = true;
-    for j in 0..columns {
-        all = !lacks(ranks, j as usize * 256 + q as usize) & all;
-    }
-    all
+    (0..columns).all(|j| !lacks(&rights[j as usize], q as usize))
 }
 
 // The fence: the unbroken states that have a rank in each right's column.
 #[derive(Drop)]
-pub(crate) struct Fence<'a, 'b> {
+pub(crate) struct Fence<'a> {
     pub(crate) broken: &'a [u16],
-    pub(crate) rights: &'b [u16],
+    pub(crate) rights: &'a [[u16; 256]; 4],
     pub(crate) columns: u8,
     pub(crate) count: u16,
+    ghost few: { columns ≤ 4 },
 }
 
-impl<'a, 'b> States for Fence<'a, 'b> {
-    ghost has = { λ s q. (nat_lt q s.count && slice_index s.broken.now q == 65535) && all s.columns (λ j. not (slice_index s.rights.now (j * 256 + q) == 65535)) };
+impl States for Fence<'_> {
+    ghost has = { λ s q. (nat_lt q s.count && slice_index s.broken.now q == 65535) && all s.columns (λ j. not (slice_index (slice_index_or s.rights.now j []) q == 65535)) };
 
     fn has(&self, q: u16) -> bool {
         let unbroken = Unranked {

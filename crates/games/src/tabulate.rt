@@ -2,7 +2,7 @@
 ghost use Rattle.std.specs.Prelude.{◌≡◌, ℕ, ◌≤◌, None};
 ghost use Rattle.automata.specs.Steps.{named, onward};
 ghost use Rattle.games.specs.Tables.{table_arena};
-ghost use Rattle.std.proofs.Common.{rules, arith};
+ghost use Rattle.std.proofs.Common.{rules};
 
 use crate::table::Table;
 use automata::arena::Arena;
@@ -12,10 +12,7 @@ use automata::automaton::Automaton;
 fn stored(step: Option<u16>, count: u16) -> Option<u16>
     ensures { result ≡ onward step None (named count) }
 {
-    match step {
-        None => None,
-        Some(t) => if t < count { Some(t) } else { None },
-    }
+    step.filter(|t| *t < count)
 }
 
 impl Automaton for Table {
@@ -31,27 +28,27 @@ impl Automaton for Table {
 
     ghost step = { λ t. (table_arena t).step };
 
-    ghost narrow = { first_of (Prim.search rules, Prim.grind (arith, Self.row.coded.inj)) };
+    ghost narrow = { Prim.search rules };
 
-    ghost sized = { first_of (Prim.search rules, Prim.grind (arith, Self.row.coded.inj)) };
+    ghost sized = { Prim.search rules };
 
-    ghost begins = { first_of (Prim.search rules, Prim.grind (arith, Self.row.coded.inj)) };
+    ghost begins = { Prim.search rules };
 
-    ghost enters = { first_of (Prim.search rules, Prim.grind (arith, Self.row.coded.inj)) };
+    ghost enters = { Prim.search rules };
 
-    ghost state_outside = { first_of (Prim.search rules, Prim.grind (arith, Self.row.coded.inj)) };
+    ghost state_outside = { Prim.search rules };
 
-    ghost reading_outside = { first_of (Prim.search rules, Prim.grind (arith, Self.row.coded.inj)) };
+    ghost reading_outside = { Prim.search rules };
 
-    ghost command_outside = { first_of (Prim.search rules, Prim.grind (arith, Self.row.coded.inj)) };
+    ghost command_outside = { Prim.search rules };
 
-    ghost mark_outside = { first_of (Prim.search rules, Prim.grind (arith, Self.row.coded.inj)) };
+    ghost mark_outside = { Prim.search rules };
 
-    ghost full_start = { first_of (Prim.search rules, Prim.grind (arith, Self.row.coded.inj)) };
+    ghost full_start = { Prim.search rules };
 
-    ghost full_step = { first_of (Prim.search rules, Prim.grind (arith, Self.row.coded.inj)) };
+    ghost full_step = { Prim.search rules };
 
-    ghost full_mark = { first_of (Prim.search rules, Prim.grind (arith, Self.row.coded.inj)) };
+    ghost full_mark = { Prim.search rules };
 
     fn reading_bits(&self) -> u8 {
         self.reading_bits
@@ -70,13 +67,13 @@ impl Automaton for Table {
     }
 
     fn marked(&self, q: u16) -> bool {
-        q < self.count && self.duty[q as usize]
+        q < self.count && self.rows[q as usize].marked
     }
 
     fn step(&self, q: u16, x: u8, y: u8) -> Option<u16> {
         if q < self.count && x < 1 << self.reading_bits && y < 1 << self.command_bits {
             stored(
-                self.steps[(q as usize * 8 + x as usize) * 8 + y as usize],
+                self.rows[q as usize].steps[x as usize][y as usize],
                 self.count,
             )
         } else {
@@ -90,24 +87,21 @@ impl Arena for Table {
 
     ghost right = { λ t. (table_arena t).right };
 
-    ghost few = { first_of (Prim.search rules, Prim.grind (arith, Self.row.coded.inj)) };
+    ghost few = { Prim.search rules };
 
-    ghost no_zeroth = { first_of (Prim.search rules, Prim.grind (arith, Self.row.coded.inj)) };
+    ghost no_zeroth = { Prim.search rules };
 
-    ghost right_outside = { first_of (Prim.search rules, Prim.grind (arith, Self.row.coded.inj)) };
+    ghost right_outside = { Prim.search rules };
 
-    ghost right_state_outside = { first_of (Prim.search rules, Prim.grind (arith, Self.row.coded.inj)) };
+    ghost right_state_outside = { Prim.search rules };
 
-    ghost full_rights = { first_of (Prim.search rules, Prim.grind (arith, Self.row.coded.inj)) };
+    ghost full_rights = { Prim.search rules };
 
     fn rights(&self) -> u8 {
         self.rights
     }
 
     fn right(&self, i: u8, q: u16) -> bool {
-        1 <= i
-            && i <= self.rights
-            && q < self.count
-            && self.marks[(i as usize - 1) * 256 + q as usize]
+        1 <= i && i <= self.rights && q < self.count && self.rows[q as usize].rights[i as usize - 1]
     }
 }

@@ -1,6 +1,8 @@
 // The verdict on an arena, and the refusal to give one.
-ghost use Rattle.std.specs.Prelude.{◌≡◌};
-ghost use Rattle.games.specs.Verdicts.{verdict_number, fault_number};
+ghost use Rattle.std.specs.Prelude.{◌≡◌, Some};
+ghost use Rattle.games.specs.Verdicts.{verdict_word, verdict_number, fault_number};
+
+use std::fmt;
 
 #[derive(Clone, Copy, PartialEq, Eq, Debug)]
 pub enum Verdict {
@@ -19,8 +21,21 @@ impl Verdict {
         match *self {
             Verdict::Groundless => 0,
             Verdict::Planned(rounds) => rounds,
-            Verdict::Unplayable(right) => right as u16,
+            Verdict::Unplayable(right) => u16::from(right),
         }
+    }
+}
+
+// A verdict prints as its word.
+impl fmt::Display for Verdict {
+    ghost output = { λ v. Some (verdict_word v) };
+
+    fn fmt<W: fmt::Write>(&self, f: &mut fmt::Formatter<W>) -> fmt::Result {
+        f.write_str(match self {
+            Verdict::Groundless => "groundless",
+            Verdict::Planned(_) => "planned",
+            Verdict::Unplayable(_) => "unplayable",
+        })
     }
 }
 

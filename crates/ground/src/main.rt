@@ -10,9 +10,11 @@ use automata::arena::Arena;
 use automata::automaton::Automaton;
 use automata::widths::commands;
 use games::verdict::Verdict;
-use jobs::fault::JobFault;
 use jobs::load::LoadFault;
 use jobs::read::load;
+use lines::refusals::{show_job_fault, show_refusal};
+use lines::verdict::show_verdict;
+use lines::words::{ReadFault, read_bytes, read_capped};
 use planner::Planner;
 use planner::ground_reading::ground_reading;
 use std::alloc::Global;
@@ -25,36 +27,11 @@ struct Place {
     column: u8,
 }
 
-fn show_job_fault(out: &mut String, fault: JobFault) -> anyhow::Result<()> {
-    let number = fault.number();
-    match fault.section() {
-        None => writeln!(out, "refused {number}")?,
-        Some(section) => writeln!(out, "refused {number} {section}")?,
-    }
-    Ok(())
-}
-
-fn show_verdict<P: Arena>(out: &mut String, arena: &P, verdict: Verdict) -> anyhow::Result<()> {
-    let word = match verdict {
-        Verdict::Groundless => "groundless",
-        Verdict::Planned(_) => "planned",
-        Verdict::Unplayable(_) => "unplayable",
-    };
-    let count = arena.count();
-    let rights = arena.rights();
-    let number = verdict.number();
-    writeln!(out, "{word} {count} {rights} {number}")?;
-    Ok(())
-}
-
 // The lowest of the rights' columns that has a reading at a state, or 0.
 fn column_at(sheet: &[u8], rights: u8, state: u16) -> u8 {
-    for column in 1..=rights {
-        if ground_reading(sheet, column, state).unwrap_or(255) != 255 {
-            return column;
-        }
-    }
-    0
+    (1..=rights)
+        .find(|column| ground_reading(sheet, *column, state).unwrap_or(255) != 255)
+        .unwrap_or(0)
 }
 
 // A right's column is followed for good.
@@ -88,7 +65,7 @@ fn command<P: Arena>(
     number: u8,
 ) -> anyhow::Result<Place> {
     if number >= commands(arena) {
-        writeln!(out, "refused 21")?;
+        show_refusal(out, 21)?;
         return Ok(place);
     }
     let Some(state) = arena.step(place.state, reading_at(sheet, place), number) else {
@@ -119,12 +96,9 @@ fn play_arena<P: Arena>(heap: Global, arena: &P, numbers: &[u8]) -> anyhow::Resu
     let mut planner = Planner::new(heap)?;
     let mut buffer = vec![in heap; 0u8; 65536]?;
     match assure(&mut planner, arena, buffer.as_mut_slice(), &mut []) {
-        Err(fault) => {
-            let number = fault.number();
-            writeln!(out, "refused {number}")?;
-        }
+        Err(fault) => show_refusal(&mut out, fault.number())?,
         Ok(Outcome { verdict, drive: _ }) => {
-            show_verdict(&mut out, arena, verdict)?;
+            show_verdict(&mut out, verdict, arena.count(), arena.rights())?;
             if let Verdict::Unplayable(_) = verdict {
                 follow(&mut out, arena, buffer.as_slice(), numbers)?;
             }
@@ -136,51 +110,42 @@ fn play_arena<P: Arena>(heap: Global, arena: &P, numbers: &[u8]) -> anyhow::Resu
 // Everything that is printed of a job and a list of commands.
 fn play(heap: Global, job: &[u8], numbers: &[u8]) -> anyhow::Result<String> {
     match load(heap, job) {
+        Ok(job) => play_arena(heap, &job, numbers),
         Err(LoadFault::Refused(fault)) => {
             let mut out = String::new(heap);
             show_job_fault(&mut out, fault)?;
             Ok(out)
         }
         Err(LoadFault::Memory) => Err(anyhow!("out of memory")),
-        Ok(job) => play_arena(heap, &job, numbers),
     }
 }
 
-// The bytes of the job.
+// The bytes of the job, on the first line. There may be none.
 fn job_line(heap: Global, line: &str) -> anyhow::Result<Vec<u8>> {
     let mut job = Vec::new(heap);
-    for word in line.split_whitespace() {
-        let Ok(byte) = word.parse::<u8>() else {
-            return Err(anyhow!("the first line is not a list of numbers from 0 to 255"));
-        };
-        job.push(byte)?;
+    match read_bytes(&mut job, line) {
+        Ok(()) => Ok(job),
+        Err(ReadFault::NotBytes) => {
+            Err(anyhow!("the first line is not a list of numbers from 0 to 255"))
+        }
+        Err(ReadFault::Memory) => Err(anyhow!("out of memory")),
     }
-    Ok(job)
 }
 
 // A command. A number above 255 stands as 255, which is too large for every job.
 fn command_line(line: &str) -> anyhow::Result<u8> {
-    let Ok(number) = line.trim().parse::<u64>() else {
-        return Err(anyhow!("a line is not a command's number"));
-    };
-    if number > 255 {
-        return Ok(255);
-    }
-    Ok(number as u8)
+    read_capped(line.trim()).ok_or(anyhow!("a line is not a command's number"))
 }
 
 fn run(rt: &HostRuntime) -> anyhow::Result<()> {
-    let mut job = Vec::new(rt.alloc());
+    let mut lines = rt.lines(rt.alloc());
+    let job = match lines.next() {
+        Some(line) => job_line(rt.alloc(), line?.as_str())?,
+        None => Vec::new(rt.alloc()),
+    };
     let mut numbers = Vec::new(rt.alloc());
-    let mut first = true;
-    for line in rt.lines(rt.alloc()) {
-        let line = line?;
-        if first {
-            job = job_line(rt.alloc(), line.as_str())?;
-            first = false;
-        } else {
-            numbers.push(command_line(line.as_str())?)?;
-        }
+    for line in lines {
+        numbers.push(command_line(line?.as_str())?)?;
     }
     let out = play(rt.alloc(), job.as_slice(), numbers.as_slice())?;
     rt.print(out.as_str())?;

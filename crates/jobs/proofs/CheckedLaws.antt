@@ -6,18 +6,16 @@ use Rattle.std.proofs.lemmas.Bool.{and_parts, eqb-true}
 use Rattle.jobs.specs.FlatJob.{byte, begins_as, leads, narrow, flat_job}
 use Rattle.jobs.specs.Sections.{section_fits, is_ground, ground_fault, text_fault}
 use Rattle.jobs.specs.Parts.{offset, sections_arena}
-use Rattle.jobs.specs.JobFile.{in_turn, looked_for, turn, total, ended, few_states, sectioned_checked, job_checked}
+use Rattle.jobs.specs.JobFile.{in_turn, form_at, ground_at, none_at, text_at, turn, total, ended, few_states, sectioned_checked, job_checked}
 use Rattle.jobs.specs.Loaded.{AllSound}
 use Rattle.jobs.specs.declared.fault.JobFault.{JobFault}
 use Rattle.jobs.specs.declared.fault.JobFault.TheVariants.{Section}
-use Rattle.jobs.specs.declared.turn.Turn.{Turn}
-use Rattle.jobs.specs.declared.turn.Turn.TheVariants.{Forms, Ground, Nones, Texts}
 
 abbrev Good : {E : Type 0} → Result (Unit {0}) E → Type 0
 Good {E} r = ◌≡◌ {A = Result (Unit {0}) E} r (Ok tt)
 
 err_not : {A E : Type 0} {e : E} → Good {E = E} (Err e) → A
-err_not h = absurd (let z : ◌≡◌ {A = ℕ} 0 1 = cc in omega arith)
+err_not h = absurd cc
 
 and_ok : {E : Type 0} (r s : Result (Unit {0}) E) → Good (result_and r s) → Good r × Good s
 and_ok (Ok t) s h = (refl, h)
@@ -45,8 +43,9 @@ in_turn_at f (suc n) i h l =
 -- all that a check that passes has found
 pub record Passed (bs : List ℕ) : Type 0 where
   pub narrow_is : narrow bs ≡ true
-  pub rights_few : leb (byte bs 5) 4 ≡ true
-  pub turns : (t : Turn) → Good (turn t bs)
+  pub forms : Good (turn form_at bs)
+  pub ground : Good (turn ground_at bs)
+  pub texts : Good (turn text_at bs)
   pub states_few : leb (sections_arena bs).n 256 ≡ true
 
 pub passed : (bs : List ℕ) → Good (sectioned_checked bs) → Passed bs
@@ -55,40 +54,32 @@ passed bs h =
     let wide = cond_ok (narrow bs) _ _ lead.1 in
     let rights = cond_ok (leb (byte bs 5) 4) _ _ wide.1 in
     let whole = cond_ok (eqb (total bs) (length bs)) _ _ rights.1 in
-    let forms = and_ok (turn Forms bs) _ whole.1 in
+    let forms = and_ok (turn form_at bs) _ whole.1 in
     let end = and_ok (ended bs) _ forms.1 in
-    let ground = and_ok (turn Ground bs) _ end.1 in
-    let nones = and_ok (turn Nones bs) _ ground.1 in
-    let texts = and_ok (turn Texts bs) (few_states bs) nones.1 in
+    let ground = and_ok (turn ground_at bs) _ end.1 in
+    let nones = and_ok (turn none_at bs) _ ground.1 in
+    let texts = and_ok (turn text_at bs) (few_states bs) nones.1 in
     record {
       narrow_is = wide.0;
-      rights_few = rights.0;
-      turns = each forms.0 ground.0 nones.0 texts.0;
+      forms = forms.0;
+      ground = ground.0;
+      texts = texts.0;
       states_few = (cond_ok (leb (sections_arena bs).n 256) _ _ texts.1).0;
     }
-  where
-    each : Good (turn Forms bs) → Good (turn Ground bs) → Good (turn Nones bs) → Good (turn Texts bs) → (t : Turn) → Good (turn t bs)
-    each f g n x Forms = f
-    each f g n x Ground = g
-    each f g n x Nones = n
-    each f g n x Texts = x
 
 -- so its sections can be made
-pub all_sound : (bs : List ℕ) → Passed bs → AllSound (byte bs 3) (byte bs 4) (byte bs 5) bs
+pub all_sound : (bs : List ℕ) → Passed bs → AllSound bs
 all_sound bs p = record {
   each = λ i l. record {
-    fits = (cond_ok (section_fits (byte bs 3) (byte bs 4) bs (offset (byte bs 3) (byte bs 4) bs i)) _ _ (in_turn_at (looked_for Forms (byte bs 3) (byte bs 4) bs) (byte bs 5 + 2) i (p.turns Forms) l)).0;
-    text = mapped_ok (Section i) (text_fault (byte bs 3) (byte bs 4) bs (offset (byte bs 3) (byte bs 4) bs i)) (in_turn_at (looked_for Texts (byte bs 3) (byte bs 4) bs) (byte bs 5 + 2) i (p.turns Texts) l);
+    fits = (cond_ok (section_fits (byte bs 3) (byte bs 4) bs (offset (byte bs 3) (byte bs 4) bs i)) _ _ (in_turn_at (form_at bs) (byte bs 5 + 2) i p.forms l)).0;
+    text = mapped_ok (Section i) (text_fault (byte bs 3) (byte bs 4) bs (offset (byte bs 3) (byte bs 4) bs i)) (in_turn_at (text_at bs) (byte bs 5 + 2) i p.texts l);
   };
-  ground_fits = (cond_ok (is_ground bs 8) _ _ (mapped_ok (Section 0) (ground_fault bs 0 8) (in_turn_at (looked_for Ground (byte bs 3) (byte bs 4) bs) (byte bs 5 + 2) 0 (p.turns Ground) (omega arith)))).0;
+  ground_fits = (cond_ok (is_ground bs 8) _ _ (mapped_ok (Section 0) (ground_fault bs 0 8) (in_turn_at (ground_at bs) (byte bs 5 + 2) 0 p.ground (omega arith)))).0;
 }
 
--- the same, by numbers that are the head's
-pub all_sound_by : (bs : List ℕ) (a b k : ℕ) → a ≡ byte bs 3 → b ≡ byte bs 4 → k ≡ byte bs 5 → Good (sectioned_checked bs) → AllSound a b k bs
-all_sound_by bs a b k ea eb ek h =
-    subst (λ (n : ℕ). AllSound n b k bs) (sym ea)
-    (subst (λ (n : ℕ). AllSound (byte bs 3) n k bs) (sym eb)
-    (subst (λ (n : ℕ). AllSound (byte bs 3) (byte bs 4) n bs) (sym ek) (all_sound bs (passed bs h))))
+-- the form that a job begins as
+begun : (form : ℕ) (bs : List ℕ) → begins_as form bs ≡ true → byte bs 1 ≡ form
+begun form bs e = eqb-true (byte bs 1) form (and_parts _ _ (and_parts _ _ e).0).1
 
 -- a job in sections is checked as one
 pub sectioned : (bs : List ℕ) → Good (job_checked bs) → begins_as 74 bs ≡ true → Good (sectioned_checked bs)
@@ -97,6 +88,6 @@ sectioned bs ok lead = go (leads bs) refl ok
     go : (t : Bool) → leads bs ≡ t → Good (cond t (result_map_both (λ h. tt) (λ e. e) (flat_job bs)) (sectioned_checked bs)) → Good (sectioned_checked bs)
     go false e h = h
     go true e h =
-        let p = (and_parts _ _ (and_parts _ _ e).0).1 in
-        let q = (and_parts _ _ (and_parts _ _ lead).0).1 in
-        absurd (omega (arith, eqb-true (byte bs 1) 70 p, eqb-true (byte bs 1) 74 q))
+        let flat : byte bs 1 ≡ 70 = begun 70 bs e in
+        let in_sections : byte bs 1 ≡ 74 = begun 74 bs lead in
+        absurd (omega arith)

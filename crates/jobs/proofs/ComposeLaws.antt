@@ -115,7 +115,7 @@ module _ (part : ℕ → Machine) (k : ℕ) (L : (i : ℕ) → i < k + 2 → San
             rights_are = D.count ∙ ap (λ (n : ℕ). n + 1) N.rights_are ∙ omega arith;
             duty = λ w s st.
                 D.duty w (together part s j) (s (j + 2)) (N.stands w s (λ i li. st i (omega arith))) (st (j + 2) (omega arith)) ∙ N.duty w s (λ i li. st i (omega arith));
-            right = λ w s st i li hi. pick w s st i li (le_cases i j hi);
+            right = λ w s st i li hi. pick w s st i li (below_suc i (suc j) (omega arith));
           }
         where
           either : (i : ℕ) → i < suc j + 2 → (w : List Round) → walked (part i) w ≡ None → (walked (machine_in (A j)) w ≡ None) ⊎ (walked (part (j + 2)) w ≡ None)
@@ -124,9 +124,6 @@ module _ (part : ℕ → Machine) (k : ℕ) (L : (i : ℕ) → i < k + 2 → San
               go : (i ≡ j + 2) ⊎ (i < j + 2) → (walked (machine_in (A j)) w ≡ None) ⊎ (walked (part (j + 2)) w ≡ None)
               go (inl same) = inr (subst (λ (m : ℕ). walked (part m) w ≡ None) same e)
               go (inr less) = inl (N.falls w i less e)
-
-          le_cases : (i j : ℕ) → i ≤ suc j → (i ≡ suc j) ⊎ (i < suc j)
-          le_cases i j hi = below_suc i (suc j) (omega arith)
 
           pick : (w : List Round) (s : ℕ → ℕ) → Stand part (suc j) w s → (i : ℕ) → 1 ≤ i → (i ≡ suc j) ⊎ (i < suc j) → (A (suc j)).right i (together part s (suc j)) ≡ (part (suc i)).marked (s (suc i))
           pick w s st i li (inr less) =
@@ -208,11 +205,8 @@ composed bs p =
       held = λ i l h.
           let o = offset a b bs i in
           let M = plain_sane a b bs la lb o (sound.each i l).fits (sound.each i l).text in
-          holds (plain a b bs o) (rooted (plain a b bs o) M) (half_few bs a b o la lb (sound.each i l).fits (sound.each i l).text);
+          holds (plain a b bs o) (rooted (plain a b bs o) M) (plain_few a b bs la lb o (sound.each i l).fits (sound.each i l).text);
     }
-  where
-    half_few : (bs : List ℕ) (a b o : ℕ) → a ≤ 3 → b ≤ 3 → section_fits a b bs o ≡ true → text_fault a b bs o ≡ Ok tt → (plain a b bs o).n ≤ 128
-    half_few bs a b o la lb fits text = plain_few a b bs la lb o fits text
 
 pub composes : (bs : List ℕ) → Composes bs
 composes bs ok lead = composed bs (passed bs (sectioned bs ok lead))

@@ -1,13 +1,18 @@
 -- How many states and rights the nested pairs have.
-use Rattle.std.proofs.Common.{◌≡◌, ℕ, zero, suc, ◌+◌, ◌*◌, ◌<◌, ◌≤◌, Bool, true, false, cond, ◌&&◌, ltb, leb, List, Ok, Err, Result, refl, ap, ◌∙◌, arith}
+use Rattle.std.proofs.Common.{◌≡◌, ℕ, zero, suc, ◌+◌, ◌*◌, ◌<◌, ◌≤◌, Bool, true, false, cond, ◌&&◌, ltb, leb, [], ◌∷◌, sym, refl, ap, ◌∙◌, add-one, arith}
 use Rattle.std.proofs.lemmas.Bool.{lt-ltb}
+use Rattle.std.proofs.lemmas.Fn.{fold_over}
+use Rattle.std.proofs.lemmas.Iterator.{YieldsList-from_range}
+use Rattle.std.proofs.lemmas.List.Sums.{fold-append}
+use Rattle.std.proofs.iter.Yields.{nat_range_steps}
+use Rattle.std.specs.List.{fold, range_with_len}
+use Rattle.std.specs.declared.ops.Range.{Range}
+use Rattle.std.specs.Fn.{Called}
+use Rattle.std.specs.Iterator.{FoldsItems}
+use denote.Param.Members.{Mut}
 use Rattle.automata.specs.Machine.{Machine}
 use Rattle.automata.specs.Layers.{right_fits}
-use Rattle.jobs.specs.FlatJob.{byte}
-use Rattle.jobs.specs.Parts.{part_by, nested, sections_arena}
-use Rattle.jobs.specs.JobFile.{few_states}
-use Rattle.jobs.specs.declared.fault.JobFault.{JobFault}
-use Rattle.jobs.specs.declared.fault.JobFault.TheVariants.{TooManyStates}
+use Rattle.jobs.specs.Parts.{nested}
 
 -- how many states a pair has, or 257
 abbrev pub paired : ℕ → ℕ → ℕ
@@ -31,9 +36,19 @@ nested_states part i h =
     and_true true = refl
     and_true false = refl
 
--- a job's states are few or not, by their count
-pub few_by : (bs : List ℕ) (a b k n : ℕ) → n ≡ (nested (part_by a b bs) k).n → a ≡ byte bs 3 → b ≡ byte bs 4 → k ≡ byte bs 5 → cond (leb n 256) (Ok tt) (Err TooManyStates) ≡ few_states bs
-few_by bs a b k n e ea eb ek =
-    let same : n ≡ (sections_arena bs).n =
-    e ∙ ap (λ a. (nested (part_by a b bs) k).n) ea ∙ ap (λ b. (nested (part_by (byte bs 3) b bs) k).n) eb ∙ ap (λ k. (nested (part_by (byte bs 3) (byte bs 4) bs) k).n) ek in
-    ap {B = Result (Unit {0}) JobFault} (λ n. cond (leb n 256) (Ok tt) (Err TooManyStates)) same
+-- the states of so many nested pairs, counted right by right
+pub nested_fold : (part : ℕ → Machine) (m j n : ℕ) → n ≡ (nested part j).n → j + m ≤ 4 → fold (λ n i. paired n (part (i + 2)).n) n (range_with_len j m) ≡ (nested part (j + m)).n
+nested_fold part zero j n e l = e ∙ ap (λ k. (nested part k).n) (let p : j ≡ j + 0 = omega arith in p)
+nested_fold part (suc m) j n e l =
+    nested_fold part m (j + 1) (paired n (part (j + 2)).n)
+    (ap (λ n. paired n (part (j + 2)).n) e ∙ sym (nested_states part j (omega arith)) ∙ ap (λ k. (nested part k).n) (sym (add-one j)))
+    (omega arith)
+    ∙ ap (λ k. (nested part k).n) (let p : j + 1 + m ≡ j + suc m = omega arith in p)
+
+-- `fold` over the numbers below n
+pub fold_below : {F : Type 0} {g : Mut F (ℕ × (ℕ × Unit {0})) ℕ} {s : Range ℕ} {f : F} (n : ℕ) (h : ℕ → ℕ → ℕ) (a r : ℕ) → s ≡ record { start = 0; end = n } → FoldsItems nat_range_steps g s f a r
+    → ((c x b : ℕ) (q : F) → Called g f (c, (x, tt)) b q → (q ≡ f) × (b ≡ h c x)) → r ≡ fold h a (range_with_len 0 n)
+fold_below {g = g} {s = s} {f = f} n h a r e ran k =
+    fold_over nat_range_steps (λ x. x) g (λ ys c. c ≡ fold h a ys) f
+    (λ ys c x b q j call. ((k c x b q call).1 ∙ ap (λ c. h c x) j ∙ sym (fold-append h a ys (x ∷ [])), (k c x b q call).0))
+    s (range_with_len 0 n) a r (YieldsList-from_range 0 n n e (omega arith)).runs refl ran

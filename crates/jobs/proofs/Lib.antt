@@ -3,3 +3,4 @@ pub mod CountLaws
 pub mod LoadLaws
 pub mod CheckedLaws
 pub mod ComposeLaws
+pub mod OffsetLaws

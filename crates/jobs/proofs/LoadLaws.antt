@@ -1,29 +1,18 @@
--- The automata of sections, once they are made.
-use Rattle.std.proofs.Common.{◌≡◌, ℕ, Bool, true, false, cond, not, ◌&&◌, List, sym, refl, ap, ◌∙◌}
-use Rattle.automata.specs.Machine.{Machine}
+-- The ground, once its section is known to be one.
+use Rattle.std.proofs.Common.{◌≡◌, ℕ, Bool, true, false, cond, not, ◌&&◌, List, sym, refl, ap}
 use Rattle.automata.specs.Layers.{held}
 use Rattle.std.proofs.lemmas.Bool.{and_parts}
+use Rattle.jobs.specs.FlatJob.{byte}
 use Rattle.jobs.specs.Sections.{is_table, is_held, is_ground}
-use Rattle.jobs.specs.Parts.{plain, machine, offset, part_by}
+use Rattle.jobs.specs.Parts.{plain, part}
 
--- a held section
-pub held_part : (a b : ℕ) (bs : List ℕ) (o i : ℕ) (m : Machine) → o ≡ offset a b bs i → is_held bs o ≡ true → m ≡ plain a b bs o → held m ≡ part_by a b bs i
-held_part a b bs o i m eo eh em =
-    ap held em
-    ∙ sym (ap (λ (t : Bool). cond t (held (plain a b bs o)) (plain a b bs o)) eh)
-    ∙ ap (machine a b bs) eo
-
--- a ground is a table that is not held
-module _ (a b : ℕ) (bs : List ℕ) (g : is_ground bs 8 ≡ true) where
-  pub ground_table : is_table bs 8 ≡ true
-  ground_table = (and_parts (is_table bs 8) _ (and_parts (is_table bs 8 && not (is_held bs 8)) _ g).0).0
-
-  ground_free : not (is_held bs 8) ≡ true
-  ground_free = (and_parts (is_table bs 8) _ (and_parts (is_table bs 8 && not (is_held bs 8)) _ g).0).1
-
-  pub ground_plain : plain a b bs 8 ≡ part_by a b bs 0
-  ground_plain = sym (ap (λ (t : Bool). cond t (held (plain a b bs 8)) (plain a b bs 8)) (unheld (is_held bs 8) ground_free))
-    where
-      unheld : (t : Bool) → not t ≡ true → t ≡ false
-      unheld true e = sym e
-      unheld false e = refl
+-- a ground is not held
+pub ground_plain : (bs : List ℕ) → is_ground bs 8 ≡ true → plain (byte bs 3) (byte bs 4) bs 8 ≡ part bs 0
+ground_plain bs g =
+    let p = plain (byte bs 3) (byte bs 4) bs 8 in
+    let free = (and_parts (is_table bs 8) _ (and_parts (is_table bs 8 && not (is_held bs 8)) _ g).0).1 in
+    sym (ap (λ (t : Bool). cond t (held p) p) (unheld (is_held bs 8) free))
+  where
+    unheld : (t : Bool) → not t ≡ true → t ≡ false
+    unheld true e = sym e
+    unheld false e = refl

@@ -1,8 +1,10 @@
 -- What a list of bytes is as a flat job: 68, 70, 1, reading bits, command bits, rights, count and
 -- start; then a mark byte for each state, and a step byte for each state, reading and command.
-use Rattle.std.specs.Prelude.{ℕ, ◌+◌, ◌*◌, ◌^◌, Bool, cond, ◌&&◌, ◌||◌, ltb, List, length, Ok, Err, Result, ◌==◌, nat_le, nat_lt, slice_index}
+use Rattle.std.specs.Prelude.{ℕ, ◌+◌, ◌*◌, ◌^◌, Bool, cond, if◌then◌else◌, ◌&&◌, ◌||◌, ltb, List, length, Ok, Err, Result, ◌==◌, nat_le, nat_lt, slice_index}
 use Rattle.ranges.specs.Ranges.{all}
 use Rattle.automata.specs.declared.header.FlatHeader.{FlatHeader}
+use Rattle.jobs.specs.declared.form.Form.{Form}
+use Rattle.jobs.specs.declared.form.Form.TheVariants.{Flat, Sections}
 use Rattle.jobs.specs.declared.fault.JobFault.{JobFault}
 use Rattle.jobs.specs.declared.fault.JobFault.TheVariants.{NotAJob, TooManyBits, TooManyRights, Malformed}
 
@@ -25,12 +27,24 @@ head bs = record { reading_bits = byte bs 3; command_bits = byte bs 4; rights = 
 abbrev pub begins_as : ℕ → List ℕ → Bool
 begins_as form bs = nat_le 8 (length bs) && byte bs 0 == 68 && byte bs 1 == form && byte bs 2 == 1
 
+-- the second byte of a job, by its form
+abbrev pub form_byte : Form → ℕ
+form_byte Flat = 70
+form_byte Sections = 74
+
 -- a flat job's form is 70
 abbrev pub leads : List ℕ → Bool
 leads bs = nat_le 8 (length bs) && byte bs 0 == 68 && byte bs 1 == 70 && byte bs 2 == 1
 
 abbrev pub narrow : List ℕ → Bool
 narrow bs = nat_le (byte bs 3) 3 && nat_le (byte bs 4) 3
+
+-- the refusal of a head of the form, if it is refused
+abbrev pub head_checked : ℕ → List ℕ → Result (Unit {0}) JobFault
+head_checked form bs =
+    if begins_as form bs
+    then if narrow bs then if nat_le (byte bs 5) 4 then Ok tt else Err TooManyRights else Err TooManyBits
+    else Err NotAJob
 
 -- how many step bytes there are
 abbrev pub cells : List ℕ → ℕ
@@ -68,7 +82,7 @@ flat_job bs =
 
 -- what the reader answers, by its numbers
 abbrev pub numbers : FlatHeader → Head
-numbers h = record { reading_bits = h.reading_bits; command_bits = h.command_bits; rights = h.rights; count = h.count; start = h.start }
+numbers h = record { reading_bits = h.shape.reading_bits; command_bits = h.shape.command_bits; rights = h.rights; count = h.shape.count; start = h.shape.start }
 
 abbrev pub told : Result FlatHeader JobFault → Result Head JobFault
 told (Ok h) = Ok (numbers h)

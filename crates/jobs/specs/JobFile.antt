@@ -9,8 +9,6 @@ use Rattle.jobs.specs.Parts.{offset, sections_arena}
 use Rattle.jobs.specs.declared.fault.SectionFault.{SectionFault}
 use Rattle.jobs.specs.declared.fault.JobFault.{JobFault}
 use Rattle.jobs.specs.declared.fault.JobFault.TheVariants.{NotAJob, TooManyBits, TooManyRights, Malformed, WrongTotal, Section, TooManyStates}
-use Rattle.jobs.specs.declared.turn.Turn.{Turn}
-use Rattle.jobs.specs.declared.turn.Turn.TheVariants.{Forms, Ground, Nones, Texts}
 
 abbrev pub total : List ℕ → ℕ
 total bs = byte bs 6 + 256 * byte bs 7
@@ -24,15 +22,22 @@ in_turn (suc m) fault = result_and (in_turn m fault) (fault m)
 abbrev pub of_section : ℕ → Result (Unit {0}) SectionFault → Result (Unit {0}) JobFault
 of_section i r = result_map_both (λ u. u) (Section i) r
 
--- what is looked for in one turn through the sections
-abbrev pub looked_for : Turn → ℕ → ℕ → List ℕ → ℕ → Result (Unit {0}) JobFault
-looked_for Forms a b bs i = form_fault a b bs i (offset a b bs i)
-looked_for Ground a b bs i = of_section i (ground_fault bs i (offset a b bs i))
-looked_for Nones a b bs i = of_section i (none_fault a b bs i (offset a b bs i))
-looked_for Texts a b bs i = of_section i (text_fault a b bs (offset a b bs i))
+-- what is looked for in each section
+abbrev pub form_at : List ℕ → ℕ → Result (Unit {0}) JobFault
+form_at bs i = form_fault (byte bs 3) (byte bs 4) bs i (offset (byte bs 3) (byte bs 4) bs i)
 
-abbrev pub turn : Turn → List ℕ → Result (Unit {0}) JobFault
-turn t bs = in_turn (byte bs 5 + 2) (looked_for t (byte bs 3) (byte bs 4) bs)
+abbrev pub ground_at : List ℕ → ℕ → Result (Unit {0}) JobFault
+ground_at bs i = of_section i (ground_fault bs i (offset (byte bs 3) (byte bs 4) bs i))
+
+abbrev pub none_at : List ℕ → ℕ → Result (Unit {0}) JobFault
+none_at bs i = of_section i (none_fault (byte bs 3) (byte bs 4) bs i (offset (byte bs 3) (byte bs 4) bs i))
+
+abbrev pub text_at : List ℕ → ℕ → Result (Unit {0}) JobFault
+text_at bs i = of_section i (text_fault (byte bs 3) (byte bs 4) bs (offset (byte bs 3) (byte bs 4) bs i))
+
+-- one turn through the sections
+abbrev pub turn : (List ℕ → ℕ → Result (Unit {0}) JobFault) → List ℕ → Result (Unit {0}) JobFault
+turn fault bs = in_turn (byte bs 5 + 2) (fault bs)
 
 -- bytes behind the last section count as its fault
 abbrev pub ended : List ℕ → Result (Unit {0}) JobFault
@@ -44,7 +49,7 @@ few_states bs = cond (nat_le (sections_arena bs).n 256) (Ok tt) (Err TooManyStat
 -- the sections' refusals, one kind after the other, each over the sections in turn
 abbrev pub sections_checked : List ℕ → Result (Unit {0}) JobFault
 sections_checked bs =
-    result_and (turn Forms bs) (result_and (ended bs) (result_and (turn Ground bs) (result_and (turn Nones bs) (result_and (turn Texts bs) (few_states bs)))))
+    result_and (turn form_at bs) (result_and (ended bs) (result_and (turn ground_at bs) (result_and (turn none_at bs) (result_and (turn text_at bs) (few_states bs)))))
 
 -- a job in sections: the first refusal that applies, if one does
 abbrev pub sectioned_checked : List ℕ → Result (Unit {0}) JobFault

@@ -1,4 +1,3 @@
-pub mod Scan
 pub mod Faults
 pub mod FlatJob
 pub mod Sections

@@ -28,11 +28,11 @@ abbrev pub Composes : List ℕ → Type 0
 Composes bs = job_checked bs ≡ Ok tt → begins_as 74 bs ≡ true → Composed bs
 
 -- a section that can be made: it is well formed, and its text, if it has one, is a rule's
-pub record Sound (a b : ℕ) (bs : List ℕ) (i : ℕ) : Type 0 where
-  pub fits : section_fits a b bs (offset a b bs i) ≡ true
-  pub text : text_fault a b bs (offset a b bs i) ≡ Ok tt
+pub record Sound (bs : List ℕ) (i : ℕ) : Type 0 where
+  pub fits : section_fits (byte bs 3) (byte bs 4) bs (offset (byte bs 3) (byte bs 4) bs i) ≡ true
+  pub text : text_fault (byte bs 3) (byte bs 4) bs (offset (byte bs 3) (byte bs 4) bs i) ≡ Ok tt
 
 -- sections that a job can be made of
-pub record AllSound (a b k : ℕ) (bs : List ℕ) : Type 0 where
-  pub each : (i : ℕ) → i < k + 2 → Sound a b bs i
+pub record AllSound (bs : List ℕ) : Type 0 where
+  pub each : (i : ℕ) → i < byte bs 5 + 2 → Sound bs i
   pub ground_fits : is_ground bs 8 ≡ true

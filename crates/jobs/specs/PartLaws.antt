@@ -39,7 +39,7 @@ table_by_sane a b n start bs la lb some few begin = record {
   full_mark = λ q e. absurd (omega arith);
 }
 
-table_sane : (h : Shape) (bs : List ℕ) → Sane (table h bs)
+table_sane : (h : Shape 64) (bs : List ℕ) → Sane (table h bs)
 table_sane h bs = table_by_sane h.reading_bits h.command_bits h.count h.start bs h.narrow_readings h.narrow_commands h.some_state h.few_states h.start_inside
 
 -- a rule by its formula
@@ -78,30 +78,30 @@ Keeps A = Sane (machine_in A) × Entitled A
 flat_keeps : (h : FlatHeader) (bs : List ℕ) → Keeps (flat_arena h bs)
 flat_keeps h bs = (
   record {
-    narrow_readings = h.narrow_readings;
-    narrow_commands = h.narrow_commands;
-    some_state = h.some_state;
-    sized = omega (arith, h.few_states);
-    begins = h.start_inside;
+    narrow_readings = h.shape.narrow_readings;
+    narrow_commands = h.shape.narrow_commands;
+    some_state = h.shape.some_state;
+    sized = omega (arith, h.shape.few_states);
+    begins = h.shape.start_inside;
     enters = λ q x y. search rules;
     state_outside = λ q x y e. search rules;
     reading_outside = λ q x y e. search rules;
     command_outside = λ q x y e. search rules;
     mark_outside = λ q e. search rules;
-    full_start = λ e. absurd (omega (arith, h.few_states, e));
-    full_step = λ q x y e. absurd (omega (arith, h.few_states, e));
-    full_mark = λ q e. absurd (omega (arith, h.few_states, e));
+    full_start = λ e. absurd (omega (arith, h.shape.few_states, e));
+    full_step = λ q x y e. absurd (omega (arith, h.shape.few_states, e));
+    full_mark = λ q e. absurd (omega (arith, h.shape.few_states, e));
   },
   record {
     few = h.few_rights;
     no_zeroth = λ q. refl;
     right_outside = λ i q e. search rules;
     right_state_outside = λ i q e. search rules;
-    full_rights = λ e. absurd (omega (arith, h.few_states, e));
+    full_rights = λ e. absurd (omega (arith, h.shape.few_states, e));
   },
 )
 
-duty_keeps : (h : Shape) (bs : List ℕ) (d : Part) → Keeps (duty_arena (table h bs) (part_machine d))
+duty_keeps : (h : Shape 64) (bs : List ℕ) (d : Part) → Keeps (duty_arena (table h bs) (part_machine d))
 duty_keeps h bs d = (duty_sane (table h bs) (part_machine d) (table_sane h bs) (part_sane d), duty_entitled (table h bs) (part_machine d))
 
 right_keeps : (A : Arena) (r : Part) → Keeps A → Keeps (right_arena A (part_machine r))

@@ -1,115 +1,84 @@
 // Reading a flat job: one table with all marks.
-ghost use Rattle.std.specs.Prelude.{◌≡◌, ◌*◌, ◌^◌, ◌≤◌, true};
-ghost use Rattle.jobs.specs.FlatJob.{byte, begins_as, narrow, cells, states_fit, marks_fit, steps_fit, rest_fits, told, flat_job};
+ghost use Rattle.std.specs.Prelude.{◌≡◌, ◌*◌, ◌^◌, ◌≤◌};
+ghost use Rattle.jobs.specs.FlatJob.{byte, cells, states_fit, marks_fit, steps_fit, rest_fits, told, flat_job};
 
 use crate::fault::JobFault;
-use crate::scan::{ByteTest, all_pass};
+use crate::form::Form;
+use crate::job_bytes::JobBytes;
 use automata::bytes::Bytes;
 use automata::header::FlatHeader;
-
-// Whether the bytes begin as a job of the form does: 70 is flat, 74 in sections.
-pub(crate) fn leads(form: u8, bytes: &[u8]) -> bool
-    ensures { result ≡ begins_as form bytes.now }
-{
-    (bytes.len() >= 8) & (bytes.at(0) == 68) & (bytes.at(1) == form) & (bytes.at(2) == 1)
-}
-
-// Whether readings and commands have at most three bits each.
-pub(crate) fn narrow(bytes: &[u8]) -> bool
-    ensures { result ≡ narrow bytes.now }
-{
-    (bytes.at(3) <= 3) & (bytes.at(4) <= 3)
-}
-
-// How many numbers have so many bits.
-pub(crate) fn power(bits: u8) -> usize
-    requires { bits ≤ 5 }
-    ensures { result ≡ 2 ^ bits }
-{
-    1 << bits
-}
+use automata::shape::Shape;
+use ltlf::widths::Widths;
 
 // How many step bytes a table has, of so many states.
-pub(crate) fn cells_of(count: u8, a: u8, b: u8) -> usize
-    requires readings { a ≤ 3 }
-    requires commands { b ≤ 3 }
-    ensures value { result ≡ count * 2 ^ a * 2 ^ b }
+pub(crate) fn cells_of(count: u8, widths: Widths) -> usize
+    ensures value { result ≡ count * 2 ^ widths.reading_bits * 2 ^ widths.command_bits }
     ensures bound { result ≤ 16320 }
 {
-    count as usize * power(a) * power(b)
+    let readings: usize = 1 << widths.reading_bits;
+    let commands: usize = 1 << widths.command_bits;
+    count as usize * readings * commands
 }
 
 // How many step bytes there are.
-fn cells(bytes: &[u8]) -> usize
-    requires { narrow bytes.now ≡ true }
-    ensures value { result ≡ cells bytes.now }
+fn cells(job: &JobBytes) -> usize
+    ensures value { result ≡ cells job.now.bytes.now }
     ensures bound { result ≤ 16320 }
 {
-    cells_of(bytes.at(6), bytes.at(3), bytes.at(4))
+    cells_of(job.bytes.at(6), job.widths)
 }
 
 // Whether there are 1 to 128 states, the start among them.
-fn states_fit(bytes: &[u8]) -> bool
-    ensures { result ≡ states_fit bytes.now }
+fn states_fit(job: &JobBytes) -> bool
+    ensures { result ≡ states_fit job.now.bytes.now }
 {
-    let count = bytes.at(6);
-    (1 <= count) & (count <= 128) & (bytes.at(7) < count)
+    let count = job.bytes.at(6);
+    1 <= count && count <= 128 && job.bytes.at(7) < count
 }
 
 // Whether each mark byte has no bit above the last right's.
-fn marks_fit(bytes: &[u8]) -> bool
-    requires { byte bytes.now 5 ≤ 4 }
-    ensures { result ≡ marks_fit bytes.now }
+fn marks_fit(job: &JobBytes) -> bool
+    ensures { result ≡ marks_fit job.now.bytes.now }
 {
-    let bound = power(bytes.at(5) + 1) as u8;
-    all_pass(ByteTest::Below(bound), bytes, 8, bytes.at(6) as usize)
+    let bound = 1u8 << (job.rights + 1);
+    (0..job.bytes.at(6) as usize).all(|q| job.bytes.at(8 + q) < bound)
 }
 
 // Whether each step byte is a state or none.
-fn steps_fit(bytes: &[u8]) -> bool
-    requires { narrow bytes.now ≡ true }
-    ensures { result ≡ steps_fit bytes.now }
+fn steps_fit(job: &JobBytes) -> bool
+    ensures { result ≡ steps_fit job.now.bytes.now }
 {
-    let count = bytes.at(6);
-    all_pass(
-        ByteTest::Step(count),
-        bytes,
-        8 + count as usize,
-        cells(bytes),
-    )
+    let count = job.bytes.at(6);
+    let from = 8 + count as usize;
+    (0..cells(job)).all(|i| job.bytes.at(from + i) < count || job.bytes.at(from + i) == 255)
 }
 
 // Whether what follows the head is well formed, and ends where it should.
-fn rest_fits(bytes: &[u8]) -> bool
-    requires width { narrow bytes.now ≡ true }
-    requires few { byte bytes.now 5 ≤ 4 }
-    ensures { result ≡ rest_fits bytes.now }
+fn rest_fits(job: &JobBytes) -> bool
+    ensures { result ≡ rest_fits job.now.bytes.now }
 {
-    let ends = bytes.len() == 8 + bytes.at(6) as usize + cells(bytes);
-    states_fit(bytes) & ends & marks_fit(bytes) & steps_fit(bytes)
+    states_fit(job)
+        && job.bytes.len() == 8 + job.bytes.at(6) as usize + cells(job)
+        && marks_fit(job)
+        && steps_fit(job)
 }
 
 // The head of a flat job, or the refusal. With the bytes it makes the job's arena.
 pub fn read_flat(bytes: &[u8]) -> Result<FlatHeader, JobFault>
     ensures { told result ≡ flat_job bytes.now }
 {
-    if !leads(70, bytes) {
-        return Err(JobFault::NotAJob);
-    }
-    if !narrow(bytes) {
-        return Err(JobFault::TooManyBits);
-    }
-    if bytes.at(5) > 4 {
-        return Err(JobFault::TooManyRights);
-    }
-    if !rest_fits(bytes) {
+    let job = JobBytes::read(Form::Flat, bytes)?;
+    if !rest_fits(&job) {
         return Err(JobFault::Malformed(0));
     }
-    Ok(FlatHeader {
-        reading_bits: bytes.at(3),
-        command_bits: bytes.at(4),
-        rights: bytes.at(5),
+    let shape = Shape {
+        reading_bits: job.widths.reading_bits,
+        command_bits: job.widths.command_bits,
         count: bytes.at(6),
         start: bytes.at(7),
+    };
+    Ok(FlatHeader {
+        shape,
+        rights: job.rights,
     })
 }

@@ -1,24 +1,22 @@
-// Making the arena of a job.
-ghost use Rattle.std.specs.Prelude.{◌≡◌, ℕ, ◌+◌, ◌<◌, ◌≤◌, true, false, IfOk, Ok, MatchResult};
+// Making the automata of a job's sections.
+ghost use Rattle.std.specs.Prelude.{◌≡◌, ◌≤◌, true, false, Ok, MatchResult};
 ghost use Rattle.automata.specs.Table.{table as tabled};
 ghost use Rattle.automata.specs.Machine.{machine_of};
 ghost use Rattle.ltlf.specs.contracts.automaton.RuleAutomaton.TheImpl.{ghosts as automatic};
 ghost use Rattle.jobs.specs.Sections.{is_table, section_fits, text_fault};
-ghost use Rattle.jobs.specs.Parts.{plain, machine, part_by};
-ghost use Rattle.jobs.specs.Meanings.{part_machine, job_arena};
+ghost use Rattle.jobs.specs.Parts.{plain, machine, part};
+ghost use Rattle.jobs.specs.Meanings.{part_machine};
 ghost use Rattle.jobs.specs.Loaded.{Sound};
 ghost use Rattle.jobs.specs.declared.load.LoadFault.TheVariants.{Memory as NoMemory, Refused as ByFault};
 
 use crate::fault::JobFault;
+use crate::job_bytes::JobBytes;
 use crate::part::Part;
-use crate::section::{count, is_held, is_table};
-use crate::turns::{body, offset};
-use automata::bytes::Bytes;
+use crate::section::Section;
 use automata::held::Held;
 use automata::shape::Shape;
 use automata::table::Table;
 use ltlf::rule::Rule;
-use ltlf::widths::Widths;
 use std::alloc::{AllocError, AllocFailed, Global};
 
 // Why no job is made.
@@ -52,75 +50,55 @@ impl<T: Drop> From<AllocFailed<T>> for LoadFault {
     }
 }
 
-// The bytes in memory of their own.
-pub(crate) fn copy(heap: Global, bytes: &[u8]) -> Result<Vec<u8>, AllocError>
-    ensures { IfOk result (λ v. v.items ≡ bytes.now) }
-{
-    bytes.iter().copied().collect(heap)
-}
+impl<'a> Section<'a> {
+    // The table of a section that is well formed.
+    pub(crate) fn load_table(&self, heap: Global) -> Result<Table<Vec<u8>>, LoadFault>
+        requires kind { is_table self.now.bytes.now self.now.at ≡ true }
+        requires fits { section_fits self.now.widths.reading_bits self.now.widths.command_bits self.now.bytes.now self.now.at ≡ true }
+        ensures { MatchResult result (λ t. tabled t.shape t.bytes.items ≡ plain self.now.widths.reading_bits self.now.widths.command_bits self.now.bytes.now self.now.at) (λ e. e ≡ NoMemory) }
+    {
+        let bytes = self.body().to_vec(heap)?;
+        let shape = Shape {
+            reading_bits: self.widths.reading_bits,
+            command_bits: self.widths.command_bits,
+            count: self.count(),
+            start: self.byte(3),
+        };
+        Ok(Table { shape, bytes })
+    }
 
-// The table of a section that is well formed.
-pub(crate) fn load_table(
-    heap: Global,
-    widths: Widths,
-    bytes: &[u8],
-    o: usize,
-) -> Result<Table<Vec<u8>>, LoadFault>
-    requires near { o ≤ 100000 }
-    requires kind { is_table bytes.now o ≡ true }
-    requires fits { section_fits widths.reading_bits widths.command_bits bytes.now o ≡ true }
-    ensures { MatchResult result (λ t. tabled t.shape t.bytes.items ≡ plain widths.reading_bits widths.command_bits bytes.now o) (λ e. e ≡ NoMemory) }
-{
-    let body = copy(heap, body(widths, bytes, o))?;
-    let shape = Shape {
-        reading_bits: widths.reading_bits,
-        command_bits: widths.command_bits,
-        count: count(bytes, o),
-        start: bytes.at(o + 3),
-    };
-    Ok(Table { shape, bytes: body })
-}
+    // The rule of a section whose text is a rule's.
+    fn load_rule(&self, heap: Global) -> Result<Rule, LoadFault>
+        requires kind { is_table self.now.bytes.now self.now.at ≡ false }
+        requires text { text_fault self.now.widths.reading_bits self.now.widths.command_bits self.now.bytes.now self.now.at ≡ Ok tt }
+        ensures { MatchResult result (λ m. machine_of automatic m ≡ plain self.now.widths.reading_bits self.now.widths.command_bits self.now.bytes.now self.now.at) (λ e. e ≡ NoMemory) }
+    {
+        // The text has been checked, so that nothing but memory can be wanting.
+        Rule::from_text(heap, self.widths, self.body()).map_err(|_| LoadFault::Memory)
+    }
 
-// The rule of a section whose text is a rule's.
-fn load_rule(heap: Global, widths: Widths, bytes: &[u8], o: usize) -> Result<Rule, LoadFault>
-    requires near { o ≤ 100000 }
-    requires kind { is_table bytes.now o ≡ false }
-    requires text { text_fault widths.reading_bits widths.command_bits bytes.now o ≡ Ok tt }
-    ensures { MatchResult result (λ m. machine_of automatic m ≡ plain widths.reading_bits widths.command_bits bytes.now o) (λ e. e ≡ NoMemory) }
-{
-    // The text has been checked, so that nothing but memory can be wanting.
-    match Rule::from_text(heap, widths, body(widths, bytes, o)) {
-        Ok(rule) => Ok(rule),
-        Err(_) => Err(LoadFault::Memory),
+    // The automaton of a section that is well formed, and whose text is a rule's if it has one.
+    fn load(&self, heap: Global) -> Result<Part, LoadFault>
+        requires fits { section_fits self.now.widths.reading_bits self.now.widths.command_bits self.now.bytes.now self.now.at ≡ true }
+        requires text { text_fault self.now.widths.reading_bits self.now.widths.command_bits self.now.bytes.now self.now.at ≡ Ok tt }
+        ensures { MatchResult result (λ p. part_machine p ≡ machine self.now.widths.reading_bits self.now.widths.command_bits self.now.bytes.now self.now.at) (λ e. e ≡ NoMemory) }
+    {
+        match (self.is_table(), self.is_held()) {
+            (true, false) => Ok(Part::Table(self.load_table(heap)?)),
+            (true, true) => Ok(Part::HeldTable(Held::over(self.load_table(heap)?))),
+            (false, false) => Ok(Part::Rule(self.load_rule(heap)?)),
+            (false, true) => Ok(Part::HeldRule(Held::over(self.load_rule(heap)?))),
+        }
     }
 }
 
-// The automaton of a section.
-pub(crate) fn load_part(
-    heap: Global,
-    widths: Widths,
-    bytes: &[u8],
-    i: u8,
-) -> Result<Part, LoadFault>
-    requires few { i ≤ 5 }
-    requires sound { Sound widths.reading_bits widths.command_bits bytes.now i }
-    ensures { MatchResult result (λ p. part_machine p ≡ part_by widths.reading_bits widths.command_bits bytes.now i) (λ e. e ≡ NoMemory) }
-{
-    let o = offset(widths, bytes, i);
-    let held = is_held(bytes, o);
-    if is_table(bytes, o) {
-        let table = load_table(heap, widths, bytes, o)?;
-        if held {
-            Ok(Part::HeldTable(Held::over(table)))
-        } else {
-            Ok(Part::Table(table))
-        }
-    } else {
-        let rule = load_rule(heap, widths, bytes, o)?;
-        if held {
-            Ok(Part::HeldRule(Held::over(rule)))
-        } else {
-            Ok(Part::Rule(rule))
-        }
+impl<'a> JobBytes<'a> {
+    // The automaton of section `i`.
+    pub(crate) fn load_part(&self, heap: Global, i: u8) -> Result<Part, LoadFault>
+        requires few { i ≤ 5 }
+        requires sound { Sound self.now.bytes.now i }
+        ensures { MatchResult result (λ p. part_machine p ≡ part self.now.bytes.now i) (λ e. e ≡ NoMemory) }
+    {
+        self.section(i).load(heap)
     }
 }

@@ -3,11 +3,11 @@ ghost use Rattle.std.specs.Prelude.{◌≡◌, true, false};
 ghost use Rattle.jobs.specs.FlatJob.{begins_as};
 ghost use Rattle.jobs.specs.Loaded.{Loads, Composes};
 
-use crate::assemble::load_sections;
 use crate::check::read_sectioned;
-use crate::flat::{leads, read_flat};
+use crate::flat::read_flat;
+use crate::form::Form;
 use crate::job::Job;
-use crate::load::{LoadFault, copy};
+use crate::load::LoadFault;
 use automata::flat::Flat;
 use std::alloc::Global;
 
@@ -16,7 +16,7 @@ fn load_flat(heap: Global, bytes: &[u8]) -> Result<Job, LoadFault>
     ensures { Loads bytes.now result }
 {
     let header = read_flat(bytes)?;
-    let bytes = copy(heap, bytes)?;
+    let bytes = bytes.to_vec(heap)?;
     Ok(Job::Flat(Flat { header, bytes }))
 }
 
@@ -24,8 +24,7 @@ fn load_sectioned(heap: Global, bytes: &[u8]) -> Result<Job, LoadFault>
     requires { begins_as 70 bytes.now ≡ false }
     ensures { Loads bytes.now result }
 {
-    let header = read_sectioned(bytes)?;
-    load_sections(heap, header.widths, header.rights, bytes)
+    read_sectioned(bytes)?.load(heap)
 }
 
 // Makes the arena of a job's bytes, flat or in sections, or gives the first refusal that applies.
@@ -33,7 +32,7 @@ pub fn load(heap: Global, bytes: &[u8]) -> Result<Job, LoadFault>
     ensures loads { Loads bytes.now result }
     ensures composes { Composes bytes.now }
 {
-    if leads(70, bytes) {
+    if Form::Flat.leads(bytes) {
         load_flat(heap, bytes)
     } else {
         load_sectioned(heap, bytes)

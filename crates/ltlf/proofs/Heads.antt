@@ -1,5 +1,6 @@
 -- The first byte of a prefix form tells the formula's head.
 use Rattle.std.proofs.Common.{◌≡◌, ℕ, ◌+◌, ◌<◌, Bool, true, false, cond, ◌&&◌, ltb, List, ◌∷◌, ◌++◌, length, Some, None, refl, ap, ◌∙◌, append_assoc, arith}
+use Rattle.std.proofs.lemmas.Bool.{and_parts}
 use Rattle.std.proofs.lemmas.Bool.Decides.{nat_tests}
 use Rattle.ltlf.specs.Formulas.{Ltl, truth, digit, one, two, byte1, byte2, prefix, digits_below}
 use Rattle.ltlf.specs.Tokens.{kind}
@@ -9,7 +10,6 @@ use Rattle.ltlf.specs.declared.formula.Binary.{Binary as BinaryOp}
 use Rattle.ltlf.specs.declared.formula.Binary.TheVariants.{And, Or, Until}
 use Rattle.ltlf.specs.declared.token.Token.{Token}
 use Rattle.ltlf.specs.declared.token.Token.TheVariants.{Truth, Digit, Unary, Binary}
-use Rattle.ltlf.proofs.Truths.{and_left, and_right}
 
 pub kind_one : (o : UnaryOp) → kind (byte1 o) ≡ Some (Unary o)
 kind_one Not = refl
@@ -84,4 +84,4 @@ module _ (bits : ℕ) (c : ℕ) (cs after : List ℕ) where
   two_head (two u q r) o e d k =
       let h : Binary u ≡ Binary o = same_head (two u q r) (Binary o) e d k in
       let f : cs ≡ (prefix q ++ prefix r) ++ after = cc in
-      (q, r, cc, f ∙ append_assoc (prefix q) (prefix r) after, and_left _ _ d, and_right _ _ d)
+      (q, r, cc, f ∙ append_assoc (prefix q) (prefix r) after, (and_parts _ _ d).0, (and_parts _ _ d).1)

@@ -1,4 +1,3 @@
-pub mod Truths
 pub mod Passages
 pub mod Heads
 pub mod Prefixes

@@ -1,5 +1,6 @@
 -- The codes of a rule's terms against its meaning.
 use Rattle.std.proofs.Common.{◌≡◌, ℕ, zero, suc, ◌+◌, ◌*◌, ◌/◌, ◌%◌, ◌<◌, ◌≤◌, Bool, true, false, cond, not, ◌&&◌, ◌||◌, eqb, List, [], ◌∷◌, length, Decides, refl, ap, ◌∙◌, mod-eq_of_lt, zero-add, arith}
+use Rattle.std.proofs.lemmas.Bool.{and_from, and_parts, false≢true, or_right}
 use native.Mathlib.Nat.{add-mul-mod_self_left, add-mul-div_left, div-eq_of_lt, zero-mod, zero-div}
 use Rattle.std.proofs.lemmas.Bool.Decides.{Decides-not, Decides-and, Decides-or, Decides-at}
 use Rattle.ltlf.specs.Operators.{temporal2, joined}
@@ -10,7 +11,6 @@ use Rattle.ltlf.specs.declared.formula.Unary.TheVariants.{Not, Next, Eventually,
 use Rattle.ltlf.specs.declared.formula.Binary.{Binary}
 use Rattle.ltlf.specs.declared.formula.Binary.TheVariants.{And, Or, Until}
 use Rattle.automata.specs.declared.word.Round.{Round}
-use Rattle.ltlf.proofs.Truths.{nope, and_left, and_right, both, or_right}
 use Rattle.ltlf.specs.CodeLaws.{codes_some, stepped_two, stepped_lt}
 
 -- ---- one round
@@ -19,12 +19,12 @@ shows_decides : (a : ℕ) (w : List Round) (i : ℕ) (p : Ltl) → plain p ≡ t
 shows_decides a w i (truth v) h = (λ e. e, λ e. e)
 shows_decides a w i (digit j) h = (λ e. e, λ e. e)
 shows_decides a w i (one Not p) h = Decides-not _ (shows_decides a w i p h)
-shows_decides a w i (one Next p) h = nope h
-shows_decides a w i (one Eventually p) h = nope h
-shows_decides a w i (one Always p) h = nope h
-shows_decides a w i (two And p q) h = Decides-and _ _ (shows_decides a w i p (and_left (plain p) (plain q) h)) (shows_decides a w i q (and_right (plain p) (plain q) h))
-shows_decides a w i (two Or p q) h = Decides-or _ _ (shows_decides a w i p (and_left (plain p) (plain q) h)) (shows_decides a w i q (and_right (plain p) (plain q) h))
-shows_decides a w i (two Until p q) h = nope h
+shows_decides a w i (one Next p) h = absurd (false≢true h)
+shows_decides a w i (one Eventually p) h = absurd (false≢true h)
+shows_decides a w i (one Always p) h = absurd (false≢true h)
+shows_decides a w i (two And p q) h = Decides-and _ _ (shows_decides a w i p (and_parts (plain p) (plain q) h).0) (shows_decides a w i q (and_parts (plain p) (plain q) h).1)
+shows_decides a w i (two Or p q) h = Decides-or _ _ (shows_decides a w i p (and_parts (plain p) (plain q) h).0) (shows_decides a w i q (and_parts (plain p) (plain q) h).1)
+shows_decides a w i (two Until p q) h = absurd (false≢true h)
 
 hit : (b : Bool) → eqb (cond b 1 0) 1 ≡ b
 hit true = refl
@@ -45,7 +45,7 @@ any_of f [] = false
 any_of f (r ∷ w) = f r || any_of f w
 
 any_finds : (f : Round → Bool) (w : List Round) → any_of f w ≡ true → (j : ℕ) × (0 ≤ j) × (j < length w) × (f (round_at w j) ≡ true)
-any_finds f [] e = nope e
+any_finds f [] e = absurd (false≢true e)
 any_finds f (r ∷ w) e = go (f r) refl e (any_finds f w)
   where
     go : (b : Bool) → f r ≡ b → (b || any_of f w) ≡ true → (any_of f w ≡ true → (j : ℕ) × (0 ≤ j) × (j < length w) × (f (round_at w j) ≡ true)) → (j : ℕ) × (0 ≤ j) × (j < length (r ∷ w)) × (f (round_at (r ∷ w) j) ≡ true)
@@ -63,12 +63,12 @@ all_of f (r ∷ w) = f r && all_of f w
 
 all_each : (f : Round → Bool) (w : List Round) → all_of f w ≡ true → (j : ℕ) → j < length w → f (round_at w j) ≡ true
 all_each f [] e j l = absurd (omega arith)
-all_each f (r ∷ w) e zero l = and_left (f r) (all_of f w) e
-all_each f (r ∷ w) e (suc j) l = all_each f w (and_right (f r) (all_of f w) e) j (omega arith)
+all_each f (r ∷ w) e zero l = (and_parts (f r) (all_of f w) e).0
+all_each f (r ∷ w) e (suc j) l = all_each f w (and_parts (f r) (all_of f w) e).1 j (omega arith)
 
 all_made : (f : Round → Bool) (w : List Round) → ((j : ℕ) → j < length w → f (round_at w j) ≡ true) → all_of f w ≡ true
 all_made f [] h = refl
-all_made f (r ∷ w) h = both (f r) _ (h 0 (omega arith)) (all_made f w (λ j l. h (suc j) (omega arith)))
+all_made f (r ∷ w) h = and_from (f r) _ (h 0 (omega arith)) (all_made f w (λ j l. h (suc j) (omega arith)))
 
 abbrev until_of : (Round → Bool) → (Round → Bool) → List Round → ℕ
 until_of f g [] = 0
@@ -78,7 +78,7 @@ abbrev Witness : (Round → Bool) → (Round → Bool) → List Round → Type 0
 Witness f g w = (j : ℕ) × (0 ≤ j) × (j < length w) × (g (round_at w j) ≡ true) × ((k : ℕ) → 0 ≤ k → k < j → f (round_at w k) ≡ true)
 
 until_finds : (f g : Round → Bool) (w : List Round) → eqb (until_of f g w) 1 ≡ true → Witness f g w
-until_finds f g [] e = nope e
+until_finds f g [] e = absurd (false≢true e)
 until_finds f g (r ∷ w) e = go (g r) (f r) refl refl e (until_finds f g w)
   where
     before : (j : ℕ) → f r ≡ true → ((k : ℕ) → 0 ≤ k → k < j → f (round_at w k) ≡ true) → (k : ℕ) → 0 ≤ k → k < suc j → f (round_at (r ∷ w) k) ≡ true
@@ -88,7 +88,7 @@ until_finds f g (r ∷ w) e = go (g r) (f r) refl refl e (until_finds f g w)
     go : (b d : Bool) → g r ≡ b → f r ≡ d → eqb (cond b 1 (cond d (until_of f g w) 2)) 1 ≡ true → (eqb (until_of f g w) 1 ≡ true → Witness f g w) → Witness f g (r ∷ w)
     go true d h k e rest = (0, omega arith, omega arith, h, λ i l m. absurd (omega arith))
     go false true h k e rest = let s = rest e in (suc s.0, omega arith, omega (arith, s.2), s.3, before s.0 k s.4)
-    go false false h k e rest = nope e
+    go false false h k e rest = absurd (false≢true e)
 
 until_has : (f g : Round → Bool) (w : List Round) (j : ℕ) → j < length w → g (round_at w j) ≡ true → ((k : ℕ) → 0 ≤ k → k < j → f (round_at w k) ≡ true) → eqb (until_of f g w) 1 ≡ true
 until_has f g [] j l e h = absurd (omega arith)
@@ -208,7 +208,7 @@ after a (digit j) h r w =
     Decides-at _ (digit_bit a r j) (ap (λ c. eqb c 1) (digit_later a j _ w) ∙ told (digit_bit a r j)) (λ e. e, λ e. e)
 after a (one Not p) h r w =
     Decides-at _ (not (marks p (code_after a r w p))) (ap (λ c. not (marks p c)) (not_later a p _ w)) (Decides-not _ (after a p h r w))
-after a (one Next p) h r [] = (λ e. nope e, λ x. absurd (omega (arith, x.0)))
+after a (one Next p) h r [] = (λ e. absurd (false≢true e), λ x. absurd (omega (arith, x.0)))
 after a (one Next p) h r (s ∷ w) =
     let d = shows_decides a (r ∷ s ∷ w) 1 p h in
     Decides-at _ (shows a s p) (ap (λ c. eqb c 1) (nx_told a p (shows a s p) w) ∙ told (shows a s p))
@@ -227,15 +227,15 @@ after a (one Always p) h r w =
     )
 after a (two And p q) h r w =
     Decides-at _ _ (two_marks a And refl p q r w)
-    (Decides-and _ _ (after a p (and_left (unnested p) (unnested q) h) r w) (after a q (and_right (unnested p) (unnested q) h) r w))
+    (Decides-and _ _ (after a p (and_parts (unnested p) (unnested q) h).0 r w) (after a q (and_parts (unnested p) (unnested q) h).1 r w))
 after a (two Or p q) h r w =
     Decides-at _ _ (two_marks a Or refl p q r w)
-    (Decides-or _ _ (after a p (and_left (unnested p) (unnested q) h) r w) (after a q (and_right (unnested p) (unnested q) h) r w))
+    (Decides-or _ _ (after a p (and_parts (unnested p) (unnested q) h).0 r w) (after a q (and_parts (unnested p) (unnested q) h).1 r w))
 after a (two Until p q) h r w =
     let f : Round → Bool = λ r. shows a r p in
     let g : Round → Bool = λ r. shows a r q in
-    let d = λ (j : ℕ). shows_decides a (r ∷ w) j p (and_left (plain p) (plain q) h) in
-    let e = λ (j : ℕ). shows_decides a (r ∷ w) j q (and_right (plain p) (plain q) h) in
+    let d = λ (j : ℕ). shows_decides a (r ∷ w) j p (and_parts (plain p) (plain q) h).0 in
+    let e = λ (j : ℕ). shows_decides a (r ∷ w) j q (and_parts (plain p) (plain q) h).1 in
     Decides-at _ (eqb (until_of f g (r ∷ w)) 1) (ap (λ c. eqb c 1) (un_open a p q (r ∷ w))) (
       λ x. let s = until_finds f g (r ∷ w) x in (s.0, s.1, s.2, (e s.0).0 s.3, λ k l m. (d k).0 (s.4 k l m)),
       λ x. until_has f g (r ∷ w) x.0 x.2 ((e x.0).1 x.3) (λ k l m. (d k).1 (x.4 k l m)),

@@ -1,5 +1,5 @@
 -- How one byte and its operands are passed over.
-use Rattle.std.proofs.Common.{◌≡◌, ℕ, zero, suc, ◌-◌, ◌<◌, ◌≤◌, Bool, ◌||◌, List, [], ◌∷◌, length, get_or, take, drop, Ok, Err, Result, sym, refl, ap, ◌∙◌, subst, arith, length-drop, length-take}
+use Rattle.std.proofs.Common.{◌≡◌, ℕ, zero, suc, ◌-◌, ◌<◌, ◌≤◌, Bool, ◌||◌, List, [], ◌∷◌, length, get_or, take, drop, Ok, Err, Result, sym, refl, ap, ◌∙◌, subst, arith}
 use Rattle.ltlf.specs.Operators.{temporal1, temporal2}
 use Rattle.ltlf.specs.Formulas.{Ltl, truth, digit, one, two}
 use Rattle.ltlf.specs.Tokens.{token, terms_with}
@@ -22,9 +22,6 @@ peel [] h = absurd (omega arith)
 peel (x ∷ xs) h =
     let e : length (x ∷ xs) - 1 ≡ length xs = omega arith in
     rw e (ap (λ l. x ∷ l) (sym (take_whole xs)))
-
-pub shorter_rest : (bs : List ℕ) → length (take (length bs - 1) (drop 1 bs)) ≤ length bs
-shorter_rest bs = simp (length-take, length-drop) (omega arith)
 
 pub ends : (k bits n : ℕ) (b : Bool) (bs : List ℕ) → length bs < 1 → reads k bits b n bs ≡ Err TextEnds
 ends zero bits n b bs h = refl

@@ -1,5 +1,6 @@
 -- The refusal of a text, and its first faulty place.
 use Rattle.std.proofs.Common.{◌≡◌, ℕ, zero, suc, ◌+◌, ◌<◌, ◌≤◌, Bool, true, false, cond, ◌||◌, eqb, ltb, ◌⊎◌, List, [], ◌∷◌, length, Some, None, Ok, Err, Option, Result, sym, refl, ap, ◌∙◌, subst, inl, inr, arith, length-append}
+use Rattle.std.proofs.lemmas.Bool.{false≢true}
 use Rattle.std.proofs.lemmas.Bool.Decides.{nat_tests}
 use Rattle.ltlf.specs.Operators.{temporal1, temporal2}
 use Rattle.ltlf.specs.Numbers.{number}
@@ -13,7 +14,6 @@ use Rattle.ltlf.specs.declared.formula.Unary.{Unary as UnaryOp}
 use Rattle.ltlf.specs.declared.formula.Binary.{Binary as BinaryOp}
 use Rattle.ltlf.specs.declared.token.Token.{Token}
 use Rattle.ltlf.specs.declared.token.Token.TheVariants.{Truth, Digit, Unary, Binary}
-use Rattle.ltlf.proofs.Truths.{nope}
 use Rattle.ltlf.proofs.Prefixes.{never, ok_inj, back}
 
 -- ---- a scan of the places from left to right
@@ -130,8 +130,8 @@ operator_fine : (τ b : Bool) (n m : ℕ) → with_operator τ b n ≡ Ok m → 
 operator_fine true true n m h = never h
 operator_fine true false n m h =
     let l : n < 3 = grind (arith, nat_tests) in
-    (grind (arith, nat_tests), λ x. elim x [ inl y ↦ nope y.1 | inr y ↦ omega (arith, l, y.1) ])
-operator_fine false b n m h = (ok_inj h, λ x. elim x [ inl y ↦ nope y.0 | inr y ↦ nope y.0 ])
+    (grind (arith, nat_tests), λ x. elim x [ inl y ↦ absurd (false≢true y.1) | inr y ↦ omega (arith, l, y.1) ])
+operator_fine false b n m h = (ok_inj h, λ x. elim x [ inl y ↦ absurd (false≢true y.0) | inr y ↦ absurd (false≢true y.0) ])
 
 operator_fault : (τ b : Bool) (n : ℕ) (e : TextFault) → with_operator τ b n ≡ Err e → (e ≡ NotRule) × Unruly τ τ b n
 operator_fault true true n e h = (cc, inl (refl, refl))
@@ -139,11 +139,11 @@ operator_fault true false n e h = (grind (arith, nat_tests), inr (refl, grind (a
 operator_fault false b n e h = never (sym h)
 
 term_fine : (t : Token) (b : Bool) (n m : ℕ) → terms_with t b n ≡ Ok m → (cond (is_term t b) (n + 1) n ≡ m) × (Unruly (temporal t) (is_term t b) b n → ⊥)
-term_fine (Truth v) b n m h = (ok_inj h, λ x. elim x [ inl y ↦ nope y.0 | inr y ↦ nope y.0 ])
-term_fine (Digit j) true n m h = (ok_inj h, λ x. elim x [ inl y ↦ nope y.0 | inr y ↦ nope y.0 ])
+term_fine (Truth v) b n m h = (ok_inj h, λ x. elim x [ inl y ↦ absurd (false≢true y.0) | inr y ↦ absurd (false≢true y.0) ])
+term_fine (Digit j) true n m h = (ok_inj h, λ x. elim x [ inl y ↦ absurd (false≢true y.0) | inr y ↦ absurd (false≢true y.0) ])
 term_fine (Digit j) false n m h =
     let l : n < 3 = grind (arith, nat_tests) in
-    (grind (arith, nat_tests), λ x. elim x [ inl y ↦ nope y.0 | inr y ↦ omega (arith, l, y.1) ])
+    (grind (arith, nat_tests), λ x. elim x [ inl y ↦ absurd (false≢true y.0) | inr y ↦ omega (arith, l, y.1) ])
 term_fine (Unary o) b n m h = operator_fine (temporal1 o) b n m h
 term_fine (Binary o) b n m h = operator_fine (temporal2 o) b n m h
 
@@ -387,14 +387,6 @@ err_inj : {A : Type 0} {e f : TextFault} → ◌≡◌ {A = Result A TextFault} 
 err_inj h = cc
 
 -- ---- the law
-
-answer_some : (o : Option TextFault) (e : TextFault) → answer o ≡ Err e → o ≡ Some e
-answer_some None e h = never (sym h)
-answer_some (Some f) e h = ap Some (err_inj h)
-
-answer_none : (o : Option TextFault) → answer o ≡ Ok tt → o ≡ None
-answer_none None h = refl
-answer_none (Some f) h = never h
 
 module _ (bits : ℕ) (text : List ℕ) where
   least_law : (o : Option TextFault) → scan bits text front ≡ o → (e : TextFault) → Both (answer o ≡ Err e) (Least bits front text e)

@@ -1,10 +1,13 @@
 -- What is read, and its prefix form.
-use Rattle.std.proofs.Common.{◌≡◌, ℕ, zero, suc, ◌+◌, ◌≤◌, Bool, true, false, cond, not, ◌&&◌, ◌||◌, eqb, ltb, List, [], ◌∷◌, ◌++◌, length, IfOk, Ok, Err, Result, sym, refl, ap, ◌∙◌, subst, append_assoc, append-nil, arith, length-append, ltb-false}
+use Rattle.std.proofs.Common.{◌≡◌, ℕ, zero, suc, ◌+◌, ◌^◌, ◌≤◌, Bool, true, false, cond, not, ◌&&◌, ◌||◌, eqb, ltb, List, [], ◌∷◌, ◌++◌, length, Ok, Err, Result, sym, refl, ap, ◌∙◌, subst, append_assoc, append-nil, arith, length-append, ltb-false}
+use Rattle.std.proofs.lemmas.Bool.{and_from, and_parts, false≢true}
 use Rattle.std.proofs.lemmas.Bool.Decides.{nat_tests}
 use Rattle.ltlf.specs.Operators.{temporal1, temporal2}
 use Rattle.ltlf.specs.Formulas.{Ltl, truth, digit, one, two, byte1, byte2, prefix, digits_below, plain, unnested, terms}
 use Rattle.ltlf.specs.Tokens.{known, token, with_operator, terms_with}
 use Rattle.ltlf.specs.Reading.{Read, chain, operands, follows, reads, closed, outcome, checked, counted, passed}
+use Rattle.ltlf.specs.Codes.{count, sized}
+use Rattle.ltlf.specs.CodeLaws.{codes_few}
 use Rattle.ltlf.specs.Laws.{TextOf, ReadsAs, Accepts}
 use Rattle.ltlf.specs.declared.fault.TextFault.{TextFault}
 use Rattle.ltlf.specs.declared.fault.TextFault.TheVariants.{Empty, TooLong, DigitTooLarge}
@@ -14,7 +17,6 @@ use Rattle.ltlf.specs.declared.formula.Binary.{Binary as BinaryOp}
 use Rattle.ltlf.specs.declared.formula.Binary.TheVariants.{And, Or, Until}
 use Rattle.ltlf.specs.declared.token.Token.{Token}
 use Rattle.ltlf.specs.declared.token.Token.TheVariants.{Truth, Digit, Unary, Binary}
-use Rattle.ltlf.proofs.Truths.{nope, and_left, and_right, both}
 use Rattle.ltlf.proofs.Heads.{kind_one, kind_two, kind_truth, kind_digit}
 use Rattle.ltlf.proofs.Passages.{truth_passes, digit_passes, one_reads, two_reads}
 
@@ -60,7 +62,7 @@ truth_token bits v = ap (known bits) (kind_truth v)
 digit_token : (bits j : ℕ) → (ltb j 10 && ltb j bits) ≡ true → token bits (48 + j) ≡ Ok (Digit j)
 digit_token bits j h =
     ap (known bits) (kind_digit j bits h)
-    ∙ ap (λ b. cond b (Ok (Digit j)) (Err DigitTooLarge)) (and_right (ltb j 10) (ltb j bits) h)
+    ∙ ap (λ b. cond b (Ok (Digit j)) (Err DigitTooLarge)) (and_parts (ltb j 10) (ltb j bits) h).1
 
 -- ---- a formula where it stands: beneath a temporal operator it is plain, and no term counts
 
@@ -72,41 +74,41 @@ counts b p = cond b 0 (length (terms p))
 
 -- an operator, temporal or not, beneath another or not, over an operand
 fit_one : (t b p u : Bool) → not (t && b) ≡ true → cond (b || t) p u ≡ true → cond b (not t && p) (cond t p u) ≡ true
-fit_one true true p u n h = nope n
+fit_one true true p u n h = absurd (false≢true n)
 fit_one true false p u n h = h
 fit_one false true p u n h = h
 fit_one false false p u n h = h
 
 fit_two : (t b p u q v : Bool) → not (t && b) ≡ true → cond (b || t) p u ≡ true → cond (b || t) q v ≡ true →
     cond b (not t && (p && q)) (cond t (p && q) (u && v)) ≡ true
-fit_two true true p u q v n h k = nope n
-fit_two true false p u q v n h k = both p q h k
-fit_two false true p u q v n h k = both p q h k
-fit_two false false p u q v n h k = both u v h k
+fit_two true true p u q v n h k = absurd (false≢true n)
+fit_two true false p u q v n h k = and_from p q h k
+fit_two false true p u q v n h k = and_from p q h k
+fit_two false false p u q v n h k = and_from u v h k
 
 unfit_one : (t b p u : Bool) → cond b (not t && p) (cond t p u) ≡ true → (not (t && b) ≡ true) × (cond (b || t) p u ≡ true)
-unfit_one true true p u h = nope h
+unfit_one true true p u h = absurd (false≢true h)
 unfit_one true false p u h = (refl, h)
 unfit_one false true p u h = (refl, h)
 unfit_one false false p u h = (refl, h)
 
 unfit_two : (t b p u q v : Bool) → cond b (not t && (p && q)) (cond t (p && q) (u && v)) ≡ true →
     (not (t && b) ≡ true) × (cond (b || t) p u ≡ true) × (cond (b || t) q v ≡ true)
-unfit_two true true p u q v h = nope h
-unfit_two true false p u q v h = (refl, and_left p q h, and_right p q h)
-unfit_two false true p u q v h = (refl, and_left p q h, and_right p q h)
-unfit_two false false p u q v h = (refl, and_left u v h, and_right u v h)
+unfit_two true true p u q v h = absurd (false≢true h)
+unfit_two true false p u q v h = (refl, (and_parts p q h).0, (and_parts p q h).1)
+unfit_two false true p u q v h = (refl, (and_parts p q h).0, (and_parts p q h).1)
+unfit_two false false p u q v h = (refl, (and_parts u v h).0, (and_parts u v h).1)
 
 count_one : (t b : Bool) (o : Ltl) (ts : List Ltl) → not (t && b) ≡ true →
     cond b 0 (length (cond t (o ∷ []) ts)) ≡ cond t 1 0 + cond (b || t) 0 (length ts)
-count_one true true o ts n = nope n
+count_one true true o ts n = absurd (false≢true n)
 count_one true false o ts n = refl
 count_one false true o ts n = refl
 count_one false false o ts n = omega arith
 
 count_two : (t b : Bool) (o : Ltl) (ts us : List Ltl) → not (t && b) ≡ true →
     cond b 0 (length (cond t (o ∷ []) (ts ++ us))) ≡ cond t 1 0 + (cond (b || t) 0 (length ts) + cond (b || t) 0 (length us))
-count_two true true o ts us n = nope n
+count_two true true o ts us n = absurd (false≢true n)
 count_two true false o ts us n = refl
 count_two false true o ts us n = refl
 count_two false false o ts us n = length-append ts us ∙ omega arith
@@ -178,7 +180,7 @@ back_token bits n b c cs g operand ih (Binary o) t m a h =
     subst (Back bits n b (c ∷ cs)) (ok_inj q.2)
     (record {
       text = ap (λ x. x ∷ cs) (token_two bits c o t) ∙ ap (λ l. byte2 o ∷ l) (i.text ∙ ap (λ l. prefix pf ++ l) j.text ∙ sym (append_assoc (prefix pf) (prefix qf) q.0.rest));
-      digits = both _ _ i.digits j.digits;
+      digits = and_from _ _ i.digits j.digits;
       fit = fit_two (temporal2 o) b _ _ _ _ k.2 i.fit j.fit;
       counted = omega (arith, k.0, i.counted, j.counted, count_two (temporal2 o) b (two o pf qf) (terms pf) (terms qf) k.2);
       few = λ l. j.few (i.few (k.1 l));
@@ -199,7 +201,7 @@ digit_room true n j h = ap Ok (omega arith)
 digit_room false n j h = grind (arith, nat_tests)
 
 operator_room : (t b : Bool) (n : ℕ) → not (t && b) ≡ true → n + cond t 1 0 ≤ 3 → with_operator t b n ≡ Ok (n + cond t 1 0)
-operator_room true true n e h = nope e
+operator_room true true n e h = absurd (false≢true e)
 operator_room true false n e h = grind (arith, nat_tests)
 operator_room false b n e h = ap Ok (omega arith)
 
@@ -229,9 +231,9 @@ forth (two o p q) bits n b rest d l f k h =
     let g : Read = record { formula = p; terms = m + counts c p; rest = prefix q ++ rest } in
     two_reads bits n b _ (prefix p ++ (prefix q ++ rest)) (byte2 o) (ap (λ l. byte2 o ∷ l) (append_assoc (prefix p) (prefix q) rest)) o m g _ (two_token bits o)
     (operator_room (temporal2 o) b n u.0 (omega arith))
-    (λ k h. forth p bits m c (prefix q ++ rest) (and_left _ _ d) u.1 (omega arith) k h)
+    (λ k h. forth p bits m c (prefix q ++ rest) (and_parts _ _ d).0 u.1 (omega arith) k h)
     (omega (arith, length-append (prefix p) (prefix q ++ rest)))
-    (λ k h. forth q bits (m + counts c p) c rest (and_right _ _ d) u.2 (omega arith) k h) k h
+    (λ k h. forth q bits (m + counts c p) c rest (and_parts _ _ d).1 u.2 (omega arith) k h) k h
     ∙ ap (λ x. Ok (record { formula = two o p q; terms = x; rest = rest })) z
 
 -- ---- the whole text
@@ -243,12 +245,6 @@ cond_ok false e x p h = (refl, h)
 closed_ok : (bits : ℕ) (rest : List ℕ) (u : Unit {0}) → closed bits rest ≡ Ok u → rest ≡ []
 closed_ok bits [] u h = refl
 closed_ok bits (c ∷ cs) u h = let t = chain_ok (token bits c) _ u h in never t.2
-
-prefix_some : (p : Ltl) → 1 ≤ length (prefix p)
-prefix_some (truth v) = omega arith
-prefix_some (digit j) = omega arith
-prefix_some (one o p) = omega arith
-prefix_some (two o p q) = omega arith
 
 whole : (bits : ℕ) (text : List ℕ) (p : Ltl) → outcome bits text ≡ Ok p → TextOf bits text p
 whole bits text p h =
@@ -318,27 +314,11 @@ passed_counted bits text = guarded (eqb (length text) 0) (ltb 64 (length text)) 
     guarded false true x y e = refl
     guarded false false x y e = e
 
-pub checked_counted : (bits : ℕ) (text : List ℕ) → checked bits text ≡ chain (counted bits text) (λ _. Ok tt)
-checked_counted bits text = go (outcome bits text)
-  where
-    go : (r : Result Ltl TextFault) → ◌≡◌ {A = Result (Unit {0}) TextFault} (chain r (λ _. Ok tt)) (chain (chain {B = ℕ} r (λ p. Ok (length (terms p)))) (λ _. Ok tt))
-    go (Ok p) = refl
-    go (Err e) = refl
-
--- and they are at most three
-pub passed_few : (bits : ℕ) (text : List ℕ) → IfOk (passed bits text) (λ (t : ℕ). t ≤ 3)
-passed_few bits text = guarded (eqb (length text) 0) (ltb 64 (length text)) (inner (reads (length text) bits false 0 text) refl)
-  where
-    inner : (r : Result Read TextFault) → reads (length text) bits false 0 text ≡ r → IfOk (terms_behind bits r) (λ (t : ℕ). t ≤ 3)
-    inner (Err e) h = tt
-    inner (Ok g) h = behind (closed bits g.rest)
-      where
-        behind : (c : Result (Unit {0}) TextFault) → IfOk (chain c (λ _. Ok g.terms)) (λ (t : ℕ). t ≤ 3)
-        behind (Ok u) = (back (length text) bits 0 false text g h).few (omega arith)
-        behind (Err e) = tt
-
-    guarded : (b c : Bool) → IfOk (terms_behind bits (reads (length text) bits false 0 text)) (λ (t : ℕ). t ≤ 3) →
-        IfOk (cond b (Err Empty) (cond c (Err TooLong) (terms_behind bits (reads (length text) bits false 0 text)))) (λ (t : ℕ). t ≤ 3)
-    guarded true c h = tt
-    guarded false true h = tt
-    guarded false false h = h
+-- and with them the states are counted
+pub sized_ok : (bits : ℕ) (text : List ℕ) (t : ℕ) → passed bits text ≡ Ok t → (sized bits text ≡ Ok (1 + 3 ^ t)) × (3 ^ t ≤ 27)
+sized_ok bits text t h =
+    let p = chain_ok (outcome bits text) _ t (sym (passed_counted bits text) ∙ h) in
+    let e : length (terms p.0) ≡ t = ok_inj p.2 in (
+      ap (λ (r : Result Ltl TextFault). chain {B = ℕ} r (λ p. Ok (count p))) p.1 ∙ ap {B = Result ℕ TextFault} (λ n. Ok (1 + 3 ^ n)) e,
+      subst (λ n. 3 ^ n ≤ 27) e (codes_few p.0 (whole bits text p.0 p.1).rule.few),
+    )

@@ -1,5 +1,6 @@
 -- The steps of a rule's automaton over words.
 use Rattle.std.proofs.Common.{◌≡◌, ℕ, suc, ◌+◌, ◌-◌, ◌*◌, ◌^◌, ◌<◌, Bool, true, false, cond, not, ◌&&◌, eqb, ltb, List, [], ◌∷◌, ◌++◌, map, length, Some, None, Decides, Option, sym, refl, ap, ◌∙◌, mul_assoc, mul_comm, pow-suc, arith}
+use Rattle.std.proofs.lemmas.Bool.{and_from, and_parts, false≢true}
 use Rattle.std.proofs.lemmas.Bool.Decides.{nat_tests, Decides-at}
 use Rattle.automata.specs.Steps.{onward}
 use Rattle.ltlf.specs.Formulas.{Ltl, truth, digit, one, two, unnested, terms}
@@ -9,7 +10,6 @@ use Rattle.automata.specs.Walks.{led}
 use Rattle.ltlf.specs.declared.formula.Unary.TheVariants.{Not, Next, Eventually, Always}
 use Rattle.ltlf.specs.declared.formula.Binary.TheVariants.{And, Or, Until}
 use Rattle.automata.specs.declared.word.Round.{Round}
-use Rattle.ltlf.proofs.Truths.{nope, and_left, and_right, both}
 use Rattle.ltlf.specs.CodeLaws.{codes_some, stepped_lt}
 use Rattle.ltlf.proofs.Marking.{later_lt, two_codes, not_later, after}
 
@@ -21,7 +21,7 @@ module _ (a b : ℕ) (p : Ltl) where
       rule_step a b p q r.reading r.command ≡ Some (1 + stepped a (eqb q 0) r p (q - 1))
   taken q r h x y =
       let t : ltb q (count p) ≡ true = grind (arith, nat_tests) in
-      ap (λ t. cond t (Some (1 + stepped a (eqb q 0) r p (q - 1))) None) (both (ltb q (count p)) _ t (both (ltb r.reading (2 ^ a)) (ltb r.command (2 ^ b)) x y))
+      ap (λ t. cond t (Some (1 + stepped a (eqb q 0) r p (q - 1))) None) (and_from (ltb q (count p)) _ t (and_from (ltb r.reading (2 ^ a)) (ltb r.command (2 ^ b)) x y))
 
   refused : (q : ℕ) (r : Round) → (ltb r.reading (2 ^ a) && ltb r.command (2 ^ b)) ≡ false → rule_step a b p q r.reading r.command ≡ None
   refused q r h =
@@ -31,10 +31,10 @@ module _ (a b : ℕ) (p : Ltl) where
   walk_later : (c : ℕ) (w : List Round) → c < codes p → in_range a b w ≡ true → walk (1 + c) w ≡ Some (1 + later a p c w)
   walk_later c [] h i = refl
   walk_later c (r ∷ w) h i =
-      let x = and_left (ltb r.reading (2 ^ a)) (ltb r.command (2 ^ b) && in_range a b w) i in
-      let yz = and_right (ltb r.reading (2 ^ a)) (ltb r.command (2 ^ b) && in_range a b w) i in
-      let y = and_left (ltb r.command (2 ^ b)) (in_range a b w) yz in
-      let z = and_right (ltb r.command (2 ^ b)) (in_range a b w) yz in
+      let x = (and_parts (ltb r.reading (2 ^ a)) (ltb r.command (2 ^ b) && in_range a b w) i).0 in
+      let yz = (and_parts (ltb r.reading (2 ^ a)) (ltb r.command (2 ^ b) && in_range a b w) i).1 in
+      let y = (and_parts (ltb r.command (2 ^ b)) (in_range a b w) yz).0 in
+      let z = (and_parts (ltb r.command (2 ^ b)) (in_range a b w) yz).1 in
       let e : eqb (1 + c) 0 ≡ false = grind (arith, nat_tests) in
       let f : (1 + c) - 1 ≡ c = omega arith in
       ap (λ o. onward o None (λ t. walk t w))
@@ -45,16 +45,16 @@ module _ (a b : ℕ) (p : Ltl) where
 
   walk_first : (r : Round) (w : List Round) → in_range a b (r ∷ w) ≡ true → walk 0 (r ∷ w) ≡ Some (1 + code_after a r w p)
   walk_first r w i =
-      let x = and_left (ltb r.reading (2 ^ a)) (ltb r.command (2 ^ b) && in_range a b w) i in
-      let yz = and_right (ltb r.reading (2 ^ a)) (ltb r.command (2 ^ b) && in_range a b w) i in
-      let y = and_left (ltb r.command (2 ^ b)) (in_range a b w) yz in
-      let z = and_right (ltb r.command (2 ^ b)) (in_range a b w) yz in
+      let x = (and_parts (ltb r.reading (2 ^ a)) (ltb r.command (2 ^ b) && in_range a b w) i).0 in
+      let yz = (and_parts (ltb r.reading (2 ^ a)) (ltb r.command (2 ^ b) && in_range a b w) i).1 in
+      let y = (and_parts (ltb r.command (2 ^ b)) (in_range a b w) yz).0 in
+      let z = (and_parts (ltb r.command (2 ^ b)) (in_range a b w) yz).1 in
       ap (λ o. onward o None (λ t. walk t w)) (taken 0 r (omega arith) x y)
       ∙ walk_later (stepped a true r p 0) w (stepped_lt a true r p 0 (codes_some p)) z
 
   -- a word out of range leads nowhere
   pub walk_none : (q : ℕ) (w : List Round) → in_range a b w ≡ false → walk q w ≡ None
-  walk_none q [] i = nope (sym i)
+  walk_none q [] i = absurd (false≢true (sym i))
   walk_none q (r ∷ w) i = go (ltb r.reading (2 ^ a)) (ltb r.command (2 ^ b)) refl refl i (λ t. walk_none t w)
     where
       onwards : (o : Option ℕ) → ((t : ℕ) → walk t w ≡ None) → onward o None (λ t. walk t w) ≡ None
@@ -77,7 +77,7 @@ module _ (a b : ℕ) (p : Ltl) where
       ∙ ap (marks p) g
 
   pub walk_judges : unnested p ≡ true → (w : List Round) → in_range a b w ≡ true → (q : ℕ) × (walk 0 w ≡ Some q) × Decides (rule_marked p q) (Satisfies a w p)
-  walk_judges u [] i = (0, refl, (λ e. nope e, λ x. absurd (omega (arith, x.0))))
+  walk_judges u [] i = (0, refl, (λ e. absurd (false≢true e), λ x. absurd (omega (arith, x.0))))
   walk_judges u (r ∷ w) i =
       let c : ℕ = code_after a r w p in
       let h : c < codes p = later_lt a p _ w (stepped_lt a true r p 0 (codes_some p)) in

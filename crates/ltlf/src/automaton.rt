@@ -60,16 +60,14 @@ impl Automaton for Rule {
     }
 
     fn marked(&self, q: u16) -> bool {
-        if q == 0 || q > self.formula.codes() {
-            return false;
-        }
-        self.formula.marked(q - 1)
+        q != 0 && q <= self.formula.codes() && self.formula.marked(q - 1)
     }
 
     fn step(&self, q: u16, x: u8, y: u8) -> Option<u16> {
-        let a = self.reading_bits();
+        let a = self.widths.reading_bits;
+        // Not `automata::widths`: the check refuses a step that passes its own automaton to it.
         let readings: u8 = 1 << a;
-        let commands: u8 = 1 << self.command_bits();
+        let commands: u8 = 1 << self.widths.command_bits;
         if q > self.formula.codes() || x >= readings || y >= commands {
             return None;
         }
@@ -77,7 +75,7 @@ impl Automaton for Rule {
             reading: x,
             command: y,
         };
-        let codes = if q == 0 { 0 } else { q - 1 };
+        let codes = q.saturating_sub(1);
         Some(1 + self.formula.step(a, q == 0, round, codes))
     }
 }

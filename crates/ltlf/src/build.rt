@@ -20,13 +20,10 @@ impl<'a> Builder<'a> {
         ensures built { (bits : ℕ) (p : Ltl) (after : List ℕ) → self.old.rest.now ≡ prefix p ++ after → digits_below bits p ≡ true → Builds result self.new.rest.now p after }
     {
         let [byte, rest @ ..] = self.rest else {
-            return Err(RuleFault::Text(TextFault::TextEnds));
+            return Err(TextFault::TextEnds.into());
         };
         self.rest = rest;
-        let Some(token) = kind_of(*byte) else {
-            return Err(RuleFault::Text(TextFault::UnknownByte));
-        };
-        match token {
+        match kind_of(*byte).ok_or(TextFault::UnknownByte)? {
             Token::Truth(v) => Ok(Formula::Truth(v)),
             Token::Digit(j) => Ok(Formula::Digit(j)),
             Token::Unary(op) => {

@@ -1,6 +1,6 @@
 // The check of a text, which builds nothing.
-ghost use Rattle.std.specs.Prelude.{◌≡◌, ℕ, ◌+◌, ◌^◌, ◌≤◌, length, IfOk};
-ghost use Rattle.ltlf.specs.Reading.{reads, checked, closed, passed, counted};
+ghost use Rattle.std.specs.Prelude.{◌≡◌, ℕ, ◌+◌, ◌≤◌, length};
+ghost use Rattle.ltlf.specs.Reading.{reads, checked, closed, passed};
 ghost use Rattle.ltlf.specs.Codes.{sized};
 ghost use Rattle.ltlf.specs.Passing.{Passes};
 ghost use Rattle.ltlf.specs.Laws.{ReadsAs, Accepts, Refuses};
@@ -58,7 +58,7 @@ fn ended(bits: u16, rest: &[u8]) -> Result<(), TextFault>
 fn examine(bits: u16, text: &[u8]) -> Result<u8, TextFault>
     ensures { result ≡ passed bits text.now }
 {
-    if text.len() == 0 {
+    if text.is_empty() {
         return Err(TextFault::Empty);
     }
     if text.len() > 64 {
@@ -74,41 +74,12 @@ fn examine(bits: u16, text: &[u8]) -> Result<u8, TextFault>
     Ok(reader.terms)
 }
 
-fn decide(bits: u16, text: &[u8]) -> Result<(), TextFault>
-    ensures { result ≡ checked bits text.now }
-{
-    examine(bits, text)?;
-    Ok(())
-}
-
-// How many terms the rule of a text has: at most three.
-fn count_terms(bits: u16, text: &[u8]) -> Result<u8, TextFault>
-    ensures told { result ≡ counted bits text.now }
-    ensures few { IfOk result (λ t. t ≤ 3) }
-{
-    examine(bits, text)
-}
-
-// How many codes so many terms have together.
-fn codes(terms: u8) -> u16
-    requires { terms ≤ 3 }
-    ensures value { result ≡ 3 ^ terms }
-    ensures few { result ≤ 27 }
-{
-    match terms {
-        0 => 1,
-        1 => 3,
-        2 => 9,
-        _ => 27,
-    }
-}
-
 // How many states the automaton of a text's rule has, or why the text is no rule's. It builds nothing.
 pub fn count_states(a: u8, b: u8, text: &[u8]) -> Result<u16, TextFault>
     ensures { result ≡ sized (a + b) text.now }
 {
-    let terms = count_terms(a as u16 + b as u16, text)?;
-    Ok(1 + codes(terms))
+    let terms = examine(a as u16 + b as u16, text)?;
+    Ok(1 + 3u16.pow(terms as u32))
 }
 
 // Decides whether a text is a rule's, and why it is not. A digit is compared with the sum of the two
@@ -119,5 +90,5 @@ pub fn check(a: u8, b: u8, text: &[u8]) -> Result<(), TextFault>
     ensures accepts { Accepts (a + b) text.now result }
     ensures refuses { Refuses (a + b) text.now result }
 {
-    decide(a as u16 + b as u16, text)
+    examine(a as u16 + b as u16, text).map(|_| ())
 }

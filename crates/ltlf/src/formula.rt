@@ -29,12 +29,7 @@ impl Unary {
     pub(crate) fn is_temporal(self) -> bool
         ensures { result ≡ temporal1 self }
     {
-        match self {
-            Unary::Not => false,
-            Unary::Next => true,
-            Unary::Eventually => true,
-            Unary::Always => true,
-        }
+        !matches!(self, Unary::Not)
     }
 }
 
@@ -42,11 +37,7 @@ impl Binary {
     pub(crate) fn is_temporal(self) -> bool
         ensures { result ≡ temporal2 self }
     {
-        match self {
-            Binary::And => false,
-            Binary::Or => false,
-            Binary::Until => true,
-        }
+        matches!(self, Binary::Until)
     }
 
     // The value of the two operands' values, where the operator is not temporal.

@@ -34,16 +34,9 @@ pub(crate) fn kind_of(byte: u8) -> Option<Token>
 pub(crate) fn token_of(bits: u16, byte: u8) -> Result<Token, TextFault>
     ensures { result ≡ meant bits byte }
 {
-    match kind_of(byte) {
-        None => Err(TextFault::UnknownByte),
-        Some(Token::Digit(j)) => {
-            if (j as u16) < bits {
-                Ok(Token::Digit(j))
-            } else {
-                Err(TextFault::DigitTooLarge)
-            }
-        }
-        Some(token) => Ok(token),
+    match kind_of(byte).ok_or(TextFault::UnknownByte)? {
+        Token::Digit(j) if j as u16 >= bits => Err(TextFault::DigitTooLarge),
+        token => Ok(token),
     }
 }
 

@@ -1,16 +1,17 @@
 // The numbers on standard input.
 use anyhow::anyhow;
+use lines::words::{ReadFault, read_bytes};
 
 // Each is a byte.
 pub fn read_numbers(rt: &(impl Input + AllocGlobal)) -> anyhow::Result<Vec<u8>> {
     let mut bytes = Vec::new(rt.alloc());
     for line in rt.lines(rt.alloc()) {
-        let line = line?;
-        for word in line.split_whitespace() {
-            let Ok(byte) = word.parse::<u8>() else {
+        match read_bytes(&mut bytes, line?.as_str()) {
+            Ok(()) => {}
+            Err(ReadFault::NotBytes) => {
                 return Err(anyhow!("standard input is not a list of numbers from 0 to 255"));
-            };
-            bytes.push(byte)?;
+            }
+            Err(ReadFault::Memory) => return Err(anyhow!("out of memory")),
         }
     }
     Ok(bytes)

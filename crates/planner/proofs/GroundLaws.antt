@@ -5,6 +5,7 @@ use Rattle.std.proofs.lemmas.List.FromFn.{length-map-range_with_len, get_or-map-
 use Rattle.std.proofs.lemmas.List.{get_or_append_left, length-append}
 use Rattle.std.proofs.lemmas.Bool.{and_from, cond-true, cond-false, eq-eqb, le-leb, le-ltb, lt-ltb}
 use Rattle.sheets.specs.Encoding.{half}
+use Rattle.sheets.proofs.Encoded.{word_is}
 use Rattle.sheets.specs.Format.{byte, word, reading_bits, command_bits, rights, count, start}
 use Rattle.sheets.proofs.Places.{row_in}
 use Rattle.planner.specs.GroundFormat.{GroundTables, GroundInRange, columns_end, ground_length, ground_header, ground_byte_of, ground_bytes}
@@ -19,10 +20,6 @@ module _ (G : GroundTables) (i : ℕ) where
   pub byte_column : 16 ≤ i → ground_byte_of G i ≡ G.byte ((i - 16) / G.n) ((i - 16) % G.n)
   unfolding ground_byte_of
   byte_column h = cond-false _ _ _ (le-ltb i 16 h)
-
-word_is : (bs : List ℕ) (p w : ℕ) → byte bs p ≡ half w 0 → byte bs (p + 1) ≡ half w 1 → word bs p ≡ w
-unfolding word
-word_is bs p w e f = omega (arith, e, f)
 
 module _ (G : GroundTables) (I : GroundInRange G) (rest : List ℕ) where
   abbrev bs : List ℕ

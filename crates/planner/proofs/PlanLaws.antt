@@ -1,6 +1,6 @@
 -- What planning answers and writes, case by case.
 use Rattle.std.proofs.Common.{◌≡◌, ℕ, ◌<◌, ◌≤◌, Bool, cond, ◌&&◌, leb, ◌⊎◌, List, length, Ok, Err, Result, sym, ap, ◌∙◌, subst, inl, inr, arith}
-use Rattle.std.proofs.lemmas.Bool.{cases_lt, le-leb, lt-leb, and_left, and_right, and_from, cond-true, cond-false}
+use Rattle.std.proofs.lemmas.Bool.{cases_lt, le-leb, lt-leb, and_from, cond-true, cond-false}
 use Rattle.automata.specs.Arena.{Arena}
 use Rattle.automata.specs.Lawful.{LawfulArena}
 use Rattle.games.specs.Verdicts.{verdict, answer}
@@ -9,16 +9,16 @@ use Rattle.games.specs.declared.verdict.Verdict.TheVariants.{Groundless, Planned
 use Rattle.sheets.specs.Encoding.{sheet_length}
 use Rattle.sheets.specs.Laws.{OpensTo}
 use Rattle.sheets.proofs.SheetLaws.{opens_written}
-use Rattle.planner.specs.GroundFormat.{GroundInRange, ground_bytes}
+use Rattle.planner.specs.GroundFormat.{GroundInRange}
 use Rattle.planner.specs.GroundReading.{ReadsBack}
-use Rattle.planner.specs.Writing.{fronted, written_answer, written_buffer}
+use Rattle.planner.specs.Writing.{fronted, written_answer}
 use Rattle.planner.specs.ArenaTables.{arena_tables, arena_grounds, lost_right}
 use Rattle.planner.specs.Planned.{planned_answer, sheet_for, planned_buffer}
 use Rattle.planner.specs.declared.fault.WriteFault.{WriteFault}
 use Rattle.planner.specs.declared.fault.PlanFault.{PlanFault}
 use Rattle.planner.specs.declared.fault.PlanFault.TheVariants.{TooManyStates, BufferTooShort}
 use Rattle.planner.specs.ArenaLaws.{tables_in_range, grounds_in_range}
-use Rattle.planner.proofs.Filling.{long_answer, long_buffer}
+use Rattle.planner.proofs.Filling.{long_answer}
 use Rattle.planner.proofs.GroundLaws.{reads_back}
 use Rattle.planner.proofs.Written.{sheet_sized, ground_sized}
 
@@ -35,20 +35,14 @@ module _ (A : Arena) (old : List ℕ) where
   abbrev roomy : Bool
   roomy = leb (sheet_length (arena_tables A)) (length old)
 
-  pub many_answer : 256 < A.n → planned_answer A (length old) ≡ Err TooManyStates
+  many_answer : 256 < A.n → planned_answer A (length old) ≡ Err TooManyStates
   many_answer h = cond-false few _ _ (lt-leb A.n 256 h)
 
-  pub many_buffer : 256 < A.n → planned_buffer A old ≡ old
-  many_buffer h = cond-false (few && roomy) _ old (and_left few roomy (lt-leb A.n 256 h))
-
-  pub short_answer : A.n ≤ 256 → length old < sheet_length (arena_tables A) → planned_answer A (length old) ≡ Err BufferTooShort
+  short_answer : A.n ≤ 256 → length old < sheet_length (arena_tables A) → planned_answer A (length old) ≡ Err BufferTooShort
   short_answer h l = cond-true few _ _ (le-leb A.n 256 h) ∙ cond-false roomy _ _ (lt-leb _ _ l)
 
-  pub short_buffer : length old < sheet_length (arena_tables A) → planned_buffer A old ≡ old
-  short_buffer l = cond-false (few && roomy) _ old (and_right few roomy (lt-leb _ _ l))
-
   module _ (h : A.n ≤ 256) (l : sheet_length (arena_tables A) ≤ length old) where
-    pub roomy_answer : planned_answer A (length old) ≡ Ok (verdict A)
+    roomy_answer : planned_answer A (length old) ≡ Ok (verdict A)
     roomy_answer = cond-true few _ _ (le-leb A.n 256 h) ∙ cond-true roomy _ _ (le-leb _ _ l)
 
     roomy_buffer : planned_buffer A old ≡ fronted (sheet_for A (verdict A)) old
@@ -60,9 +54,6 @@ module _ (A : Arena) (old : List ℕ) where
     -- the verdict's sheet is written
     sheet_answer : (v : Verdict) → written_answer (sheet_for A v) old ≡ Ok tt
     sheet_answer v = long_answer (sheet_for A v) old (fits v)
-
-    sheet_buffer : (v : Verdict) → v ≡ verdict A → written_buffer (sheet_for A v) old ≡ planned_buffer A old
-    sheet_buffer v e = long_buffer (sheet_for A v) old (fits v) ∙ ap (λ (w : Verdict). fronted (sheet_for A w) old) e ∙ sym roomy_buffer
 
     module _ (L : LawfulArena A) where
       planned_opens : (rounds : ℕ) → verdict A ≡ Planned rounds → OpensTo (arena_tables A) (planned_buffer A old)
@@ -76,19 +67,19 @@ module _ (A : Arena) (old : List ℕ) where
 
 -- an answer is no refusal, and has one verdict
 ok_never : {X E : Type 0} (v : X) (f : E) → ◌≡◌ {A = Result X E} (Err f) (Ok v) → ⊥
-ok_never v f e = let z : ◌≡◌ {A = ℕ} 0 1 = cc in omega arith
+ok_never v f e = cc
 
 ok_same : {E : Type 0} (v w : Verdict) → ◌≡◌ {A = Result Verdict E} (Ok v) (Ok w) → v ≡ w
 ok_same v w e = cc
 
 -- where planning answers a verdict
-record Answered (A : Arena) (old : List ℕ) (v : Verdict) : Type 0 where
-  few_states : A.n ≤ 256
-  room : sheet_length (arena_tables A) ≤ length old
-  is : verdict A ≡ v
+pub record Answered (A : Arena) (old : List ℕ) (v : Verdict) : Type 0 where
+  pub few_states : A.n ≤ 256
+  pub room : sheet_length (arena_tables A) ≤ length old
+  pub is : verdict A ≡ v
 
 module _ (A : Arena) (old : List ℕ) where
-  answered : (v : Verdict) → planned_answer A (length old) ≡ Ok v → Answered A old v
+  pub answered : (v : Verdict) → planned_answer A (length old) ≡ Ok v → Answered A old v
   answered v e = go (cases_lt 256 A.n) (cases_lt (length old) (sheet_length (arena_tables A)))
     where
       go : (256 < A.n) ⊎ (A.n ≤ 256) → (length old < sheet_length (arena_tables A)) ⊎ (sheet_length (arena_tables A) ≤ length old) → Answered A old v
@@ -107,10 +98,6 @@ module _ (A : Arena) (old : List ℕ) where
         let t = answered (Unplayable right) (sym a ∙ e) in
         subst (ReadsBack (arena_grounds A right)) (sym b) (unplayable_reads A old t.few_states t.room (lawful t.few_states) right t.is)
 
--- the ground sheet with the right that the verdict says is lost is the sheet of an unplayable verdict
-pub lost_sheet : (A : Arena) (v : Verdict) (right : ℕ) → v ≡ Unplayable right → v ≡ verdict A → ground_bytes (arena_grounds A (lost_right (verdict A))) ≡ sheet_for A v
-lost_sheet A v right e f = ap (λ (w : Verdict). ground_bytes (arena_grounds A (lost_right w))) (sym f ∙ e) ∙ sym (ap (sheet_for A) e)
-
 -- what a solver that took over an arena of few states answers and holds
 module _ (A : Arena) (few : A.n ≤ 256) where
   pub solved_verdict : (v : Verdict) → Ok v ≡ answer A → v ≡ verdict A
@@ -123,6 +110,3 @@ module _ (A : Arena) (few : A.n ≤ 256) where
 module _ (A B : Arena) (same : B ≡ A) (old : List ℕ) (few : A.n ≤ 256) (room : sheet_length (arena_tables A) ≤ length old) (v : Verdict) where
   pub write_takes : (f : WriteFault) → Err f ≡ written_answer (sheet_for B v) old → ⊥
   write_takes f e = ok_never tt f (e ∙ ap (λ (C : Arena). written_answer (sheet_for C v) old) same ∙ sheet_answer A old few room v)
-
-  pub write_leaves : (new : List ℕ) → v ≡ verdict A → new ≡ written_buffer (sheet_for B v) old → new ≡ planned_buffer A old
-  write_leaves new is e = e ∙ ap (λ (C : Arena). written_buffer (sheet_for C v) old) same ∙ sheet_buffer A old few room v is

@@ -1,14 +1,15 @@
 // Writing a drive sheet.
 ghost use Rattle.std.specs.Prelude.{◌≡◌, ◌+◌, ◌*◌, ◌^◌, ◌<◌, ◌≤◌, length};
+ghost use Rattle.std.specs.List.{flat_map};
 ghost use Rattle.sheets.specs.Encoding.{header, byte_of, steps_offset, ranks_offset, sets_offset, step_cell, rank_cell, set_cell, sheet_length, sheet_bytes};
 ghost use Rattle.sheets.specs.Laws.{OpensTo};
 ghost use Rattle.planner.specs.Writing.{written_answer, written_buffer};
 
 use crate::drive_tables::DriveTables;
 use crate::fault::WriteFault;
-use crate::fill::{Source, fill};
-use crate::places::{Places, lay_out, power};
-use crate::words::half;
+use crate::fill::fill;
+use crate::places::lay_out;
+use sheets::layout::Places;
 
 // Where the parts of the tables' sheet lie.
 fn layout<T: DriveTables>(tables: &T) -> Places
@@ -18,42 +19,26 @@ fn layout<T: DriveTables>(tables: &T) -> Places
     ensures total { result.total ≡ sheet_length (T.DriveTables.tables tables.now) }
     ensures small { result.total < 65536 }
 {
-    lay_out(
-        tables.reading_bits(),
-        tables.command_bits(),
-        tables.rights(),
-        tables.count(),
-    )
+    lay_out(tables.numbers())
 }
 
-// The header of the tables' sheet.
-fn drive_header<T: DriveTables>(tables: &T) -> [u8; 20]
-    ensures { result ≡ header (T.DriveTables.tables tables.now) }
+// The header of the tables' sheet, two bytes at a time.
+fn drive_header<T: DriveTables>(tables: &T) -> [[u8; 2]; 10]
+    ensures { flat_map (λ x. x) result ≡ header (T.DriveTables.tables tables.now) }
 {
+    let numbers = tables.numbers();
     let at = layout(tables);
-    let count = tables.count() as usize;
-    let start = tables.start() as usize;
     [
-        68,
-        83,
-        1,
-        tables.reading_bits(),
-        tables.command_bits(),
-        tables.rights(),
-        half(count, 0),
-        half(count, 1),
-        half(start, 0),
-        half(start, 1),
-        20,
-        0,
-        half(at.steps, 0),
-        half(at.steps, 1),
-        half(at.ranks, 0),
-        half(at.ranks, 1),
-        half(at.sets, 0),
-        half(at.sets, 1),
-        half(at.total, 0),
-        half(at.total, 1),
+        [68, 83],
+        [1, numbers.reading_bits],
+        [numbers.command_bits, numbers.rights],
+        numbers.count.to_le_bytes(),
+        numbers.start.to_le_bytes(),
+        [20, 0],
+        (at.steps as u16).to_le_bytes(),
+        (at.ranks as u16).to_le_bytes(),
+        (at.sets as u16).to_le_bytes(),
+        (at.total as u16).to_le_bytes(),
     ]
 }
 
@@ -62,17 +47,17 @@ fn step_cell<T: DriveTables>(tables: &T, j: usize) -> u16
     requires { j < (T.DriveTables.tables tables.now).n * 2 ^ (T.DriveTables.tables tables.now).a * 2 ^ (T.DriveTables.tables tables.now).b }
     ensures { result ≡ step_cell (T.DriveTables.tables tables.now) j }
 {
-    let readings = power(tables.reading_bits());
-    let commands = power(tables.command_bits());
+    let numbers = tables.numbers();
+    let readings = 1 << numbers.reading_bits;
+    let commands = 1 << numbers.command_bits;
     let row = j / commands;
-    match tables.step(
-        (row / readings) as u16,
-        (row % readings) as u8,
-        (j % commands) as u8,
-    ) {
-        None => 65535,
-        Some(t) => t,
-    }
+    tables
+        .step(
+            (row / readings) as u16,
+            (row % readings) as u8,
+            (j % commands) as u8,
+        )
+        .unwrap_or(65535)
 }
 
 // Field j of the ranks.
@@ -80,7 +65,7 @@ fn rank_cell<T: DriveTables>(tables: &T, j: usize) -> u16
     requires { j < ((T.DriveTables.tables tables.now).k + 1) * (T.DriveTables.tables tables.now).n }
     ensures { result ≡ rank_cell (T.DriveTables.tables tables.now) j }
 {
-    let count = tables.count() as usize;
+    let count = tables.numbers().count as usize;
     tables.rank((j / count) as u8, (j % count) as u16)
 }
 
@@ -89,8 +74,9 @@ fn set_cell<T: DriveTables>(tables: &T, j: usize) -> u8
     requires { j < ((T.DriveTables.tables tables.now).k + 1) * (T.DriveTables.tables tables.now).n * 2 ^ (T.DriveTables.tables tables.now).a }
     ensures { result ≡ set_cell (T.DriveTables.tables tables.now) j }
 {
-    let readings = power(tables.reading_bits());
-    let count = tables.count() as usize;
+    let numbers = tables.numbers();
+    let readings = 1 << numbers.reading_bits;
+    let count = numbers.count as usize;
     let row = j / readings;
     tables.set_byte(
         (row / count) as u8,
@@ -99,36 +85,24 @@ fn set_cell<T: DriveTables>(tables: &T, j: usize) -> u8
     )
 }
 
-// The sheet of some tables.
-#[derive(Drop)]
-struct DriveSheet<'a, T> {
-    tables: &'a T,
-}
-
-impl<'a, T: DriveTables> Source for DriveSheet<'a, T> {
-    ghost size = { λ s. sheet_length (T.DriveTables.tables s.tables.now) };
-
-    ghost byte = { λ s i. byte_of (T.DriveTables.tables s.tables.now) i };
-
-    fn size(&self) -> usize {
-        layout(self.tables).total
-    }
-
-    fn byte(&self, i: usize) -> u8 {
-        let at = layout(self.tables);
-        if i < 20 {
-            drive_header(self.tables)[i]
-        } else if i < at.steps {
-            self.tables.lawful_byte((i - 20) as u16)
-        } else if i < at.ranks {
-            let j = i - at.steps;
-            half(step_cell(self.tables, j / 2) as usize, j % 2)
-        } else if i < at.sets {
-            let j = i - at.ranks;
-            half(rank_cell(self.tables, j / 2) as usize, j % 2)
-        } else {
-            set_cell(self.tables, i - at.sets)
-        }
+// Byte i of the tables' sheet.
+fn drive_byte<T: DriveTables>(tables: &T, i: usize) -> u8
+    requires { i < sheet_length (T.DriveTables.tables tables.now) }
+    ensures { result ≡ byte_of (T.DriveTables.tables tables.now) i }
+{
+    let at = layout(tables);
+    if i < 20 {
+        drive_header(tables).as_flattened()[i]
+    } else if i < at.steps {
+        tables.lawful_byte((i - 20) as u16)
+    } else if i < at.ranks {
+        let j = i - at.steps;
+        step_cell(tables, j / 2).to_le_bytes()[j % 2]
+    } else if i < at.sets {
+        let j = i - at.ranks;
+        rank_cell(tables, j / 2).to_le_bytes()[j % 2]
+    } else {
+        set_cell(tables, i - at.sets)
     }
 }
 
@@ -138,5 +112,6 @@ pub fn write_drive_sheet<T: DriveTables>(tables: &T, buffer: &mut [u8]) -> Resul
     ensures buffer { buffer.new ≡ written_buffer (sheet_bytes (T.DriveTables.tables tables.now)) buffer.old }
     ensures opens { sheet_length (T.DriveTables.tables tables.now) ≤ length buffer.old → OpensTo (T.DriveTables.tables tables.now) buffer.new }
 {
-    fill(&DriveSheet { tables }, buffer)
+    let size = layout(tables).total;
+    fill(buffer, size, |i| drive_byte(tables, i))
 }

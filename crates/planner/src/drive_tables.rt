@@ -3,24 +3,17 @@ ghost use Rattle.std.specs.Prelude.{◌≡◌};
 ghost use Rattle.sheets.specs.Tables.{Tables, InRange};
 ghost use Rattle.sheets.specs.Encoding.{lawful_of, set_of};
 
+use crate::numbers::Numbers;
+
 pub trait DriveTables {
     ghost tables: { Self → Tables };
 
-    fn reading_bits(&self) -> u8
-        ensures { result ≡ (tables self.now).a };
-
-    fn command_bits(&self) -> u8
-        ensures { result ≡ (tables self.now).b };
-
-    fn rights(&self) -> u8
-        ensures { result ≡ (tables self.now).k };
-
-    // How many states there are.
-    fn count(&self) -> u16
-        ensures { result ≡ (tables self.now).n };
-
-    fn start(&self) -> u16
-        ensures { result ≡ (tables self.now).start };
+    fn numbers(&self) -> Numbers
+        ensures reading_bits { result.reading_bits ≡ (tables self.now).a }
+        ensures command_bits { result.command_bits ≡ (tables self.now).b }
+        ensures rights { result.rights ≡ (tables self.now).k }
+        ensures count { result.count ≡ (tables self.now).n }
+        ensures start { result.start ≡ (tables self.now).start };
 
     // The lawful readings at a state: bit x is set for reading x.
     fn lawful_byte(&self, state: u16) -> u8

@@ -2,24 +2,18 @@
 ghost use Rattle.std.specs.Prelude.{◌≡◌};
 ghost use Rattle.planner.specs.GroundFormat.{GroundTables, GroundInRange};
 
+use crate::numbers::Numbers;
+
 pub trait GroundColumns {
     ghost columns: { Self → GroundTables };
 
-    fn reading_bits(&self) -> u8
-        ensures { result ≡ (columns self.now).a };
-
-    fn command_bits(&self) -> u8
-        ensures { result ≡ (columns self.now).b };
-
-    fn rights(&self) -> u8
-        ensures { result ≡ (columns self.now).k };
-
-    // How many states there are.
-    fn count(&self) -> u16
-        ensures { result ≡ (columns self.now).n };
-
-    fn start(&self) -> u16
-        ensures { result ≡ (columns self.now).start };
+    // Asked here and of drive tables: one trait for both would need a law that ties its numbers to each.
+    fn numbers(&self) -> Numbers
+        ensures reading_bits { result.reading_bits ≡ (columns self.now).a }
+        ensures command_bits { result.command_bits ≡ (columns self.now).b }
+        ensures rights { result.rights ≡ (columns self.now).k }
+        ensures count { result.count ≡ (columns self.now).n }
+        ensures start { result.start ≡ (columns self.now).start };
 
     // The verdict's number: the lowest right that is lost at the start, or 0.
     fn number(&self) -> u8

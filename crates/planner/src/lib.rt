@@ -10,10 +10,10 @@ mod fill;
 pub mod ground_columns;
 pub mod ground_reading;
 pub mod ground_sheet;
+pub mod numbers;
 mod places;
 mod plan;
 pub mod solved;
-mod words;
 
 // A planner, which takes its memory once.
 #[derive(Drop)]

@@ -18,6 +18,7 @@ use crate::drive_tables::DriveTables;
 use crate::fault::{PlanFault, WriteFault};
 use crate::ground_columns::GroundColumns;
 use crate::ground_sheet::write_ground_sheet;
+use crate::numbers::Numbers;
 use crate::places::lay_out;
 use automata::arena::Arena;
 use automata::automaton::Automaton;
@@ -30,13 +31,7 @@ fn drive_sheet_length<P: Arena>(arena: &P) -> usize
     requires { P.Automaton.n arena.now ≤ 256 }
     ensures { result ≡ sheet_length (arena_tables (arena_of P.Automaton P.Arena.own arena.now)) }
 {
-    lay_out(
-        arena.reading_bits(),
-        arena.command_bits(),
-        arena.rights(),
-        arena.count(),
-    )
-    .total
+    lay_out(Numbers::of(arena)).total
 }
 
 impl Planner {

@@ -8,45 +8,26 @@ ghost use Rattle.planner.specs.ArenaLaws.{tables_in_range, grounds_in_range};
 
 use crate::drive_tables::DriveTables;
 use crate::ground_columns::GroundColumns;
-use automata::arena::Arena;
+use crate::numbers::Numbers;
 use automata::automaton::Automaton;
 use automata::widths::readings;
 use games::solver::Solver;
 use games::verdict::Verdict;
+use ranges::bits::bits_where;
 
 impl DriveTables for Solver {
     ghost tables = { λ s. arena_tables (solver_arena s) };
 
     ghost in_range = { λ s. tables_in_range (Solved.solver_arena s) (solver_lawful s) };
 
-    fn reading_bits(&self) -> u8 {
-        self.arena().reading_bits()
-    }
-
-    fn command_bits(&self) -> u8 {
-        self.arena().command_bits()
-    }
-
-    fn rights(&self) -> u8 {
-        self.arena().rights()
-    }
-
-    fn count(&self) -> u16 {
-        self.arena().count()
-    }
-
-    fn start(&self) -> u16 {
-        self.arena().start()
+    fn numbers(&self) -> Numbers {
+        Numbers::of(self.arena())
     }
 
     fn lawful_byte(&self, state: u16) -> u8 {
-        let mut byte = 0;
-        for reading in 0..readings(self.arena()) {
-            if self.is_lawful(state, reading) {
-                byte += 1 << reading;
-            }
-        }
-        byte
+        bits_where(readings(self.arena()), |reading| {
+            self.is_lawful(state, reading)
+        })
     }
 
     fn step(&self, state: u16, reading: u8, command: u8) -> Option<u16> {
@@ -67,30 +48,13 @@ impl GroundColumns for Solver {
 
     ghost in_range = { λ s. grounds_in_range (Solved.solver_arena s) (solver_lawful s) };
 
-    fn reading_bits(&self) -> u8 {
-        self.arena().reading_bits()
-    }
-
-    fn command_bits(&self) -> u8 {
-        self.arena().command_bits()
-    }
-
-    fn rights(&self) -> u8 {
-        self.arena().rights()
-    }
-
-    fn count(&self) -> u16 {
-        self.arena().count()
-    }
-
-    fn start(&self) -> u16 {
-        self.arena().start()
+    fn numbers(&self) -> Numbers {
+        Numbers::of(self.arena())
     }
 
     fn number(&self) -> u8 {
         match self.verdict() {
-            Verdict::Groundless => 0,
-            Verdict::Planned(_) => 0,
+            Verdict::Groundless | Verdict::Planned(_) => 0,
             Verdict::Unplayable(right) => right,
         }
     }

@@ -150,13 +150,6 @@ least_none m f none = go (dec_lt (least m f) m)
     go (yes p) = absurd (none (least m f) p (least_holds m f p))
     go (no p) = omega (arith, least_bound m f)
 
--- one turn of a loop that asks one number after another
-pub all_more : (m : ℕ) (f : ℕ → Bool) (sofar here : Bool) → sofar ≡ all m f → here ≡ f m → (here && sofar) ≡ all (m + 1) f
-all_more m f sofar here e h = ap₂ ◌&&◌ h e ∙ sym (ap (λ k. all k f) (add-one m))
-
-pub any_more : (m : ℕ) (f : ℕ → Bool) (sofar here : Bool) → sofar ≡ any m f → here ≡ f m → (here || sofar) ≡ any (m + 1) f
-any_more m f sofar here e h = ap₂ ◌||◌ h e ∙ sym (ap (λ k. any k f) (add-one m))
-
 pub bits_true : (m : ℕ) (f : ℕ → Bool) → f m ≡ true → bits (m + 1) f ≡ bits m f + 2 ^ m
 bits_true m f e = ap (λ (k : ℕ). bits k f) (add-one m) ∙ ap (λ (b : Bool). elim b [ true ↦ bits m f + 2 ^ m | false ↦ bits m f ]) e
 

@@ -3,6 +3,10 @@
 
 use anyhow::anyhow;
 use automata::automaton::Automaton;
+use automata::word::Round;
+use lines::refusals::show_refusal;
+use lines::rule::{show_round, show_state};
+use lines::words::read_pair;
 use ltlf::fault::RuleFault;
 use ltlf::rule::Rule;
 use ltlf::widths::Widths;
@@ -12,19 +16,24 @@ use std::io::{BufRead, BufReader, Stdin};
 #[cfg(test)]
 mod tests;
 
-// A number above 255 is out of every range, and so is 255.
-fn number(word: &str) -> anyhow::Result<u8> {
-    let number = word.parse::<u64>()?;
-    Ok(number.min(255) as u8)
-}
-
-// The two numbers of a line.
-fn pair(line: &str) -> anyhow::Result<(u8, u8)> {
+// Why a line is not two numbers.
+fn pair_fault(line: &str) -> anyhow::Error {
     let mut words = line.split_whitespace();
     let (Some(first), Some(second), None) = (words.next(), words.next(), words.next()) else {
-        return Err(anyhow!("a line wants two numbers"));
+        return anyhow!("a line wants two numbers");
     };
-    Ok((number(first)?, number(second)?))
+    match (first.parse::<u64>(), second.parse::<u64>()) {
+        (Err(fault), _) => anyhow::Error::from(fault),
+        (Ok(_), Err(fault)) => anyhow::Error::from(fault),
+        (Ok(_), Ok(_)) => anyhow!("a line wants two numbers"),
+    }
+}
+
+fn pair(line: &str) -> anyhow::Result<(u8, u8)> {
+    match read_pair(line) {
+        Some(pair) => Ok(pair),
+        None => Err(pair_fault(line)),
+    }
 }
 
 // The bytes before the first line's end.
@@ -37,33 +46,30 @@ fn text_line(heap: Global, input: &mut impl BufRead) -> anyhow::Result<Vec<u8>> 
     Ok(text)
 }
 
-fn show(rt: &impl Print, rule: &Rule, q: u16) -> anyhow::Result<()> {
-    let mark = u8::from(rule.marked(q));
-    println!(rt; "{q} {mark}")?;
-    Ok(())
-}
-
 // Shows the start and the state after each round, up to one that is out of range.
 fn follow(rt: &HostRuntime, rule: &Rule, input: BufReader<Stdin>) -> anyhow::Result<()> {
+    let mut out = String::new(rt.alloc());
     let mut q = rule.start();
-    show(rt, rule, q)?;
+    show_state(&mut out, rule, q)?;
+    rt.print(out.as_str())?;
     for line in input.lines(rt.alloc()) {
-        let (x, y) = pair(line?.as_str())?;
-        let Some(next) = rule.step(q, x, y) else {
-            println!(rt; "none")?;
-            return Ok(());
-        };
-        q = next;
-        show(rt, rule, q)?;
+        let (reading, command) = pair(line?.as_str())?;
+        out.clear();
+        let next = show_round(&mut out, rule, q, Round { reading, command })?;
+        rt.print(out.as_str())?;
+        match next {
+            Some(state) => q = state,
+            None => break,
+        }
     }
     Ok(())
 }
 
-fn refuse(rt: &impl Print, fault: RuleFault) -> anyhow::Result<()> {
-    let Some(number) = fault.number() else {
-        return Err(anyhow!("no memory"));
-    };
-    println!(rt; "refused {number}")?;
+fn refuse(rt: &HostRuntime, fault: RuleFault) -> anyhow::Result<()> {
+    let number = fault.number().ok_or(anyhow!("no memory"))?;
+    let mut out = String::new(rt.alloc());
+    show_refusal(&mut out, number)?;
+    rt.print(out.as_str())?;
     Ok(())
 }
 

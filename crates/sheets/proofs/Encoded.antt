@@ -46,7 +46,7 @@ written_holds T rest =
     }
 
 -- a two-byte field is read back
-word_is : (bs : List ℕ) (p w : ℕ) → byte bs p ≡ half w 0 → byte bs (p + 1) ≡ half w 1 → word bs p ≡ w
+pub word_is : (bs : List ℕ) (p w : ℕ) → byte bs p ≡ half w 0 → byte bs (p + 1) ≡ half w 1 → word bs p ≡ w
 unfolding word
 word_is bs p w e f = omega (arith, e, f)
 

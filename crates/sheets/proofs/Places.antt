@@ -1,9 +1,9 @@
 -- Where the fields of a sheet lie: bounds on the numbers of a header that is in order.
-use Rattle.std.proofs.Common.{◌≡◌, ℕ, ◌+◌, ◌*◌, ◌^◌, ◌<◌, ◌≤◌, true, ◌&&◌, List, length, ap, mul_comm, arith, pow_mono}
+use Rattle.std.proofs.Common.{◌≡◌, ℕ, ◌+◌, ◌*◌, ◌%◌, ◌^◌, ◌<◌, ◌≤◌, true, ◌&&◌, List, length, mul_comm, arith, pow_mono}
 use Rattle.std.proofs.lemmas.Nat.{mul-le, mul-add-lt}
 use Rattle.std.proofs.lemmas.Bool.{and_parts}
 use Rattle.std.proofs.lemmas.Bool.Decides.{nat_tests}
-use Rattle.sheets.specs.Format.{byte, word, reading_bits, command_bits, readings, commands, rights, count, start, steps_at, ranks_at, sets_at, total}
+use Rattle.sheets.specs.Format.{byte, word, reading_bits, command_bits, rights, count, start, steps_at, ranks_at, sets_at, total}
 use Rattle.sheets.specs.Whole.{header_fits, laid_out, states_fit, sets_fit, whole}
 use Rattle.sheets.specs.Headers.{header_of}
 use Rattle.sheets.specs.Framed.{framed}
@@ -79,6 +79,10 @@ sizes a b k n ha hb hk hn =
       sets = mul-le ((k + 1) * n) (2 ^ a) 1280 8 s x;
     }
 
+-- how many numbers have so many bits, in a byte
+pub power_small : (a : ℕ) → a ≤ 3 → 1 * 2 ^ a % 256 ≡ 2 ^ a
+power_small a h = let p : 2 ^ a ≤ 8 = pow_mono h in omega arith
+
 -- the places of cells within their parts
 pub row_in : (n r q x : ℕ) → q < n → x < r → q * r + x < n * r
 row_in n r q x hq hx = omega (arith, mul-add-lt q r x n hq hx, mul_comm r n)
@@ -93,76 +97,23 @@ module _ (bs : List ℕ) (h : header_fits bs ≡ true) where
   pub sizes_of : Sizes (reading_bits bs) (command_bits bs) (rights bs) (count bs)
   sizes_of = let d = bounds bs h in sizes (reading_bits bs) (command_bits bs) (rights bs) (count bs) d.few_reading_bits d.few_command_bits d.few_rights d.few_states
 
--- the place of a field of two bytes, and of one
-pub record Place (bs : List ℕ) (p : ℕ) : Type 0 where
-  pub small : p + 2 ≤ 65536
-  pub inside : p + 2 ≤ length bs
+-- the numbers of a frame are small
+pub record Small (h : Header) : Type 0 where
+  pub few_readings : h.readings ≤ 8
+  pub few_commands : h.commands ≤ 8
+  pub few_rights : h.rights ≤ 4
+  pub steps_begin : h.places.steps ≤ 65535
+  pub ranks_begin : h.places.ranks ≤ 65535
+  pub sets_begin : h.places.sets ≤ 65535
 
-pub record Byte (bs : List ℕ) (p : ℕ) : Type 0 where
-  pub small : p + 1 ≤ 65536
-  pub inside : p + 1 ≤ length bs
-
-module _ (bs : List ℕ) (h : header_fits bs ≡ true) (l : laid_out bs ≡ true) where
-  step_place : (q x y : ℕ) → q < count bs → x < readings bs → y < commands bs → Place bs (steps_at bs + 2 * ((q * readings bs + x) * commands bs + y))
-  step_place q x y hq hx hy =
-      let z = sizes_of bs h in
-      let d = bounds bs h in
-      let w = within bs l in
-      let p = cell_in (count bs) (readings bs) (commands bs) q x y hq hx hy in
-      record { small = omega arith; inside = omega arith }
-
-  rank_place : (c q : ℕ) → c ≤ rights bs → q < count bs → Place bs (ranks_at bs + 2 * (c * count bs + q))
-  rank_place c q hc hq =
-      let z = sizes_of bs h in
-      let d = bounds bs h in
-      let w = within bs l in
-      let c' : c < rights bs + 1 = omega arith in
-      let p = row_in (rights bs + 1) (count bs) c q c' hq in
-      record { small = omega arith; inside = omega arith }
-
-  set_place : (c q x : ℕ) → c ≤ rights bs → q < count bs → x < readings bs → Byte bs (sets_at bs + ((c * count bs + q) * readings bs + x))
-  set_place c q x hc hq hx =
-      let z = sizes_of bs h in
-      let d = bounds bs h in
-      let w = within bs l in
-      let c' : c < rights bs + 1 = omega arith in
-      let p = cell_in (rights bs + 1) (count bs) (readings bs) c q x c' hq hx in
-      record { small = omega arith; inside = omega arith }
-
--- the same in the numbers that a frame holds
-pub frame_step : (f : Frame) (q x y : ℕ) → q < count (framed f) → x < readings (framed f) → y < commands (framed f) → Place (framed f) (f.header.steps_at + 2 * ((q * f.header.readings + x) * f.header.commands + y))
-frame_step f q x y hq hx hy = go f.header f.told
+pub frame_small : (f : Frame) → Small f.header
+frame_small f = go f.header f.told
   where
-    go : (s : Header) → s ≡ header_of (framed f) → Place (framed f) (s.steps_at + 2 * ((q * s.readings + x) * s.commands + y))
-    go s e = rw e (step_place (framed f) f.fits f.laid q x y hq hx hy)
-
-pub frame_rank : (f : Frame) (c q : ℕ) → c ≤ rights (framed f) → q < count (framed f) → Place (framed f) (f.header.ranks_at + 2 * (c * f.header.count + q))
-frame_rank f c q hc hq = go f.header f.told
-  where
-    go : (s : Header) → s ≡ header_of (framed f) → Place (framed f) (s.ranks_at + 2 * (c * s.count + q))
-    go s e = rw e (rank_place (framed f) f.fits f.laid c q hc hq)
-
-pub frame_set : (f : Frame) (c q x : ℕ) → c ≤ rights (framed f) → q < count (framed f) → x < readings (framed f) → Byte (framed f) (f.header.sets_at + ((c * f.header.count + q) * f.header.readings + x))
-frame_set f c q x hc hq hx = go f.header f.told
-  where
-    go : (s : Header) → s ≡ header_of (framed f) → Byte (framed f) (s.sets_at + ((c * s.count + q) * s.readings + x))
-    go s e = rw e (set_place (framed f) f.fits f.laid c q x hc hq hx)
-
--- few readings and commands
-pub record Few (f : Frame) : Type 0 where
-  pub readings_few : f.header.readings ≤ 8
-  pub commands_few : f.header.commands ≤ 8
-
-pub frame_few : (f : Frame) → Few f
-frame_few f =
-    let z = sizes_of (framed f) f.fits in
-    let a = ap (λ (s : Header). s.readings) f.told in
-    let b = ap (λ (s : Header). s.commands) f.told in
-    record { readings_few = omega arith; commands_few = omega arith }
-
--- a total fits two bytes
-pub header_total : (bs : List ℕ) (s : Header) → header_fits bs ≡ true → s ≡ header_of bs → s.sets_at + (s.rights + 1) * s.count * s.readings ≤ 65535
-header_total bs s h e = rw e (let z = sizes_of bs h in let d = bounds bs h in omega arith)
+    go : (h : Header) → h ≡ header_of (framed f) → Small h
+    go h e =
+        let d = bounds (framed f) f.fits in
+        let z = sizes_of (framed f) f.fits in
+        rw e (record { few_readings = z.few_readings; few_commands = z.few_commands; few_rights = d.few_rights; steps_begin = omega arith; ranks_begin = omega arith; sets_begin = omega arith })
 
 -- the parts of a well-formed sheet
 pub record WholeParts (bs : List ℕ) : Type 0 where

@@ -1,6 +1,7 @@
 -- The numbers of a sheet's header.
 use Rattle.std.specs.Prelude.{ℕ, List}
-use Rattle.sheets.specs.Format.{reading_bits, command_bits, rights, count, start, readings, commands, steps_at, ranks_at, sets_at}
+use Rattle.sheets.specs.Format.{reading_bits, command_bits, rights, count, start, readings, commands}
+use Rattle.sheets.specs.Placed.{places_of}
 use Rattle.sheets.specs.declared.header.Header.{Header}
 
 abbrev pub header_of : List ℕ → Header
@@ -12,7 +13,5 @@ header_of bs = record {
   start = start bs;
   readings = readings bs;
   commands = commands bs;
-  steps_at = steps_at bs;
-  ranks_at = ranks_at bs;
-  sets_at = sets_at bs;
+  places = places_of (reading_bits bs) (command_bits bs) (rights bs) (count bs);
 }

@@ -5,6 +5,7 @@ pub mod Whole
 pub mod Encoding
 pub mod Laws
 pub mod Faults
+pub mod Placed
 pub mod Headers
 pub mod Framed
 pub mod Opened

@@ -1,5 +1,7 @@
 -- What opening answers, and what an opened sheet is.
 use Rattle.std.specs.Prelude.{ℕ, cond, List, [], ◌∷◌, Ok, Err, Result}
+use Rattle.sheets.specs.Tables.{Tables}
+use Rattle.sheets.specs.Format.{tables_of}
 use Rattle.sheets.specs.Whole.{whole}
 use Rattle.sheets.specs.declared.Sheet.{Sheet}
 use Rattle.sheets.specs.declared.fault.SheetFault.{SheetFault}
@@ -8,6 +10,10 @@ use Rattle.sheets.specs.declared.fault.SheetFault.TheVariants.{Malformed}
 -- the bytes that an opened sheet was lent
 abbrev pub bytes_of : Sheet → List ℕ
 bytes_of s = s.frame.bytes.now
+
+-- what an opened sheet says
+abbrev pub tables : Sheet → Tables
+tables s = tables_of (bytes_of s)
 
 -- what opening answers
 abbrev pub opened : List ℕ → Result (Unit {0}) SheetFault

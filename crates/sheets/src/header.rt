@@ -1,4 +1,6 @@
-// The numbers of a sheet's header, how many readings and commands that makes, and where the parts begin.
+// The numbers of a sheet's header, how many readings and commands that makes, and where the parts lie.
+use crate::layout::Places;
+
 #[derive(Clone, Copy)]
 pub struct Header {
     pub reading_bits: u8,
@@ -8,7 +10,5 @@ pub struct Header {
     pub start: u16,
     pub readings: u8,
     pub commands: u8,
-    pub steps_at: usize,
-    pub ranks_at: usize,
-    pub sets_at: usize,
+    pub places: Places,
 }

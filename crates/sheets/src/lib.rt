@@ -8,13 +8,14 @@ ghost use Rattle.sheets.specs.Whole.{whole};
 use crate::frame::Frame;
 
 mod answers;
-mod bytes;
 mod checks;
 pub mod fault;
 mod fields;
 mod frame;
 mod header;
+pub mod layout;
 mod opener;
+pub mod words;
 
 // An opened sheet: the lent bytes are well formed, so nothing of them is checked again.
 #[derive(Drop)]

@@ -1,5 +1,6 @@
-use Rattle.ranges.proofs.RangeLaws.{all_more}
+use Rattle.std.proofs.Common.{rules, ap}
+use Rattle.ranges.proofs.Chains.{all_below}
 use Rattle.games.proofs.moves.all_enter.Goals as goal
 
-pub loop-y-preserved : goal.loop-y-preserved
-loop-y-preserved g c = all_more c.loop-y.y _ c.loop-y.all c.lands-all.result c.loop-y.invariant c.lands-all.ensures
+pub returns : goal.returns
+returns g c = all_below _ _ (ap (λ n. record { start = 0; end = n }) c.commands.ensures) c.all.ensures.ran (λ x b q k. search rules)

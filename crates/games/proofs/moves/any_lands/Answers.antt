@@ -1,5 +1,6 @@
-use Rattle.ranges.proofs.RangeLaws.{any_more}
+use Rattle.std.proofs.Common.{rules, ap}
+use Rattle.ranges.proofs.Chains.{any_below}
 use Rattle.games.proofs.moves.any_lands.Goals as goal
 
-pub loop-y-preserved : goal.loop-y-preserved
-loop-y-preserved g c = any_more c.loop-y.y _ c.loop-y.any c.lands-any.result c.loop-y.invariant c.lands-any.ensures
+pub returns : goal.returns
+returns g c = any_below _ _ (ap (λ n. record { start = 0; end = n }) c.commands.ensures) c.any.ensures.ran (λ x b q k. search rules)

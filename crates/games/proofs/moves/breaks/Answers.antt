@@ -1,5 +1,6 @@
-use Rattle.ranges.proofs.RangeLaws.{all_more}
+use Rattle.std.proofs.Common.{rules, ap}
+use Rattle.ranges.proofs.Chains.{all_below}
 use Rattle.games.proofs.moves.breaks.Goals as goal
 
-pub loop-x-preserved : goal.loop-x-preserved
-loop-x-preserved g c = all_more c.loop-x.x _ c.loop-x.all c.any_lands-all.result c.loop-x.invariant c.any_lands-all.ensures
+pub returns : goal.returns
+returns g c = all_below _ _ (ap (λ n. record { start = 0; end = n }) c.readings.ensures) c.all.ensures.ran (λ x b q k. search rules)

@@ -1,7 +1,6 @@
-use Rattle.std.proofs.Common.{not, ◌||◌, ap, ap₂}
-use Rattle.ranges.proofs.RangeLaws.{all_more}
+use Rattle.std.proofs.Common.{rules, ap}
+use Rattle.ranges.proofs.Chains.{all_below}
 use Rattle.games.proofs.moves.forces.Goals as goal
 
-pub loop-x-preserved : goal.loop-x-preserved
-loop-x-preserved g c =
-    all_more c.loop-x.x _ c.loop-x.all (not c.is_lawful.result || c.any_lands.result) c.loop-x.invariant (ap₂ ◌||◌ (ap not c.is_lawful.ensures) c.any_lands.ensures)
+pub returns : goal.returns
+returns g c = all_below _ _ (ap (λ n. record { start = 0; end = n }) c.readings.ensures) c.all.ensures.ran (λ x b q k. search rules)

@@ -2,7 +2,7 @@ use Rattle.std.proofs.Common.{◌≡◌, sym, subst, arith}
 use Rattle.automata.specs.Arena.{arena_of}
 use Rattle.games.specs.Search.{Monotone, Ranks}
 use Rattle.games.specs.Passes.{Passed}
-use Rattle.games.proofs.Rows.{Row, row_more, row_last, row_ranks}
+use Rattle.games.proofs.Rows.{row_more, row_last, row_ranks}
 use Rattle.games.proofs.SettledLaws.{settles}
 use Rattle.games.proofs.search.search.Goals as goal
 
@@ -33,15 +33,9 @@ returns-else-pass g c =
       settled = settles A.n first joins mono;
     }
 
-pub returns-after-loop-stage : goal.returns-after-loop-stage
-returns-after-loop-stage g c =
+pub returns-after-loop-stage-clause-settled : goal.returns-after-loop-stage-clause-settled
+returns-after-loop-stage-clause-settled g c =
     let arena = c.args.arena.now in
     let A = arena_of g.P.Automaton g.P.Arena arena in
     let rule = c.args.rule.now in
-    let first = g.J.JoiningRule.first rule A in
-    let joins = g.J.JoiningRule.joins rule A in
-    let all : c.loop-stage.stage ≡ A.n = omega (arith, c.loop-stage.invariant.1, c.count-count.ensures) in
-    record {
-      ranks = row_ranks A.n first joins c.loop-stage.ranks (subst (Row A.n first joins c.loop-stage.ranks) all c.loop-stage.invariant.0);
-      settled = settles A.n first joins (g.met.J.JoiningRule.grows rule A (g.met.P.Automaton.enters arena));
-    }
+    settles A.n (g.J.JoiningRule.first rule A) (g.J.JoiningRule.joins rule A) (g.met.J.JoiningRule.grows rule A (g.met.P.Automaton.enters arena))

@@ -1,11 +1,9 @@
-use Rattle.std.proofs.Common.{sym}
-use Rattle.jobs.proofs.CheckedLaws.{all_sound_by}
+use Rattle.std.proofs.Common.{sym, subst}
+use Rattle.jobs.specs.Loaded.{AllSound}
+use Rattle.jobs.proofs.CheckedLaws.{passed, all_sound}
 use Rattle.jobs.proofs.read.load_sectioned.Goals as goal
 
-pub load_sections-requires : goal.load_sections-requires
-load_sections-requires c =
-    let n = c.in_ok-header.ensures.numbers in
-    record {
-      few = n.3;
-      sound = all_sound_by c.args.bytes.now _ _ _ n.0 n.1 n.2 (sym c.in_ok-header.ensures.told);
-    }
+pub load-requires : goal.load-requires
+load-requires c =
+    let read = c.in_ok-read_sectioned.ensures in
+    subst AllSound (sym read.same) (all_sound c.args.bytes.now (passed c.args.bytes.now (sym read.told)))

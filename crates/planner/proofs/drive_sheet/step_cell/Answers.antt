@@ -1,20 +1,19 @@
-use Rattle.std.proofs.Common.{◌/◌, ◌^◌, ◌<◌, ap, ◌∙◌, arith}
-use Rattle.std.proofs.lemmas.Nat.{pow_pos}
+use Rattle.std.proofs.Common.{◌≡◌, ℕ, ◌<◌, Some, None, Option, refl, ap, ◌∙◌, arith}
+use Rattle.std.specs.Option.{unwrap_or}
+use Rattle.std.proofs.lemmas.Nat.{one_shl}
 use Rattle.sheets.specs.Encoding.{step_cell, field_of}
-use Rattle.sheets.proofs.Cells.{in_three}
 use Rattle.planner.proofs.drive_sheet.step_cell.Goals as goal
 
-pub overflow_cast-row : goal.overflow_cast-row
-overflow_cast-row g c =
+field_is : (o : Option ℕ) → unwrap_or o 65535 ≡ field_of o
+field_is None = refl
+field_is (Some t) = refl
+
+pub returns : goal.returns
+unfolding step_cell
+returns g c =
     let T = g.T.DriveTables.tables c.args.tables.now in
     let I = g.met.T.DriveTables.in_range c.args.tables.now in
-    let z = in_three T.n (2 ^ T.a) (2 ^ T.b) c.args.j (pow_pos T.a) (pow_pos T.b) c.requires in
-    simp (c.power-readings.ensures, c.power-commands.ensures, c.reading_bits.ensures, c.command_bits.ensures) (let h : c.args.j / 2 ^ T.b / 2 ^ T.a < 65536 = omega (arith, I.few_states) in omega arith)
-
-pub returns-in-None : goal.returns-in-None
-unfolding step_cell
-returns-in-None g c = ap field_of c.in-None.ensures ∙ simp (c.power-readings.ensures, c.power-commands.ensures, c.reading_bits.ensures, c.command_bits.ensures)
-
-pub returns-in-Some : goal.returns-in-Some
-unfolding step_cell
-returns-in-Some g c = ap field_of c.in-Some.ensures ∙ simp (c.power-readings.ensures, c.power-commands.ensures, c.reading_bits.ensures, c.command_bits.ensures)
+    let a : T.a < 64 = omega (arith, I.few_reading_bits) in
+    let b : T.b < 64 = omega (arith, I.few_command_bits) in
+    let n = c.numbers-numbers.ensures in
+    c.unwrap_or.ensures ∙ field_is c.step.result ∙ ap field_of c.step.ensures ∙ simp (n.reading_bits, n.command_bits, one_shl T.a 64 a, one_shl T.b 64 b)

@@ -1,11 +1,6 @@
+use Rattle.std.proofs.Common.{rules}
 use Rattle.planner.proofs.Written.{buffer_opens}
 use Rattle.planner.proofs.drive_sheet.write_drive_sheet.Goals as goal
 
-pub returns : goal.returns
-returns g c =
-    let tables = c.args.tables.now in
-    record {
-      answer = c.fill.ensures.answer;
-      buffer = c.fill.ensures.buffer;
-      opens = buffer_opens (g.T.DriveTables.tables tables) (g.met.T.DriveTables.in_range tables) c.args.buffer.now c.fill.new.buffer c.fill.ensures.buffer;
-    }
+pub returns-clause-opens : goal.returns-clause-opens
+returns-clause-opens g c = buffer_opens (g.T.DriveTables.tables c.args.tables.now) (g.met.T.DriveTables.in_range c.args.tables.now) c.args.buffer.now c.fill.new.buffer (search rules)

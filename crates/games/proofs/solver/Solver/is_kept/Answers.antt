@@ -1,7 +1,10 @@
-use Rattle.std.proofs.Common.{◌&&◌, eqb, ap, ◌∙◌, ap₂}
+use Rattle.std.proofs.Common.{◌&&◌, not, sym, ap, ◌∙◌}
+use Rattle.games.specs.Regions.{ranked}
+use Rattle.games.specs.Solved.{solver_arena}
 use Rattle.games.proofs.SolverLaws.{rank_in_lacks}
 use Rattle.games.proofs.solver.Solver.is_kept.Goals as goal
 
-pub returns : goal.returns
-returns c =
-    ap₂ ◌&&◌ c.is_in.ensures (ap (λ v. eqb v 65535) c.rank.ensures ∙ rank_in_lacks c.args.self.now c.args.column c.args.q c.requires)
+pub returns-then-is_in : goal.returns-then-is_in
+returns-then-is_in c =
+    c.lacks.ensures ∙ rank_in_lacks c.args.self.now c.args.column c.args.q c.requires
+    ∙ ap (λ b. b && not (ranked (solver_arena c.args.self.now) c.args.column c.args.q)) (sym c.if-is_in.true ∙ c.is_in.ensures)

@@ -1,7 +1,5 @@
 use Rattle.std.proofs.Common.{ℕ, Bool, ap, ◌∙◌}
-use Rattle.games.proofs.SolverLaws.{solver_unbroken}
 use Rattle.games.proofs.solver.Solver.is_unbroken.Goals as goal
 
 pub returns : goal.returns
-returns c =
-    c.has.ensures ∙ ap (λ (U : ℕ → Bool). U c.args.q) (solver_unbroken c.args.self.now c.as_slice.result.now c.as_slice.ensures.value)
+returns c = c.has.ensures ∙ ap (λ (U : ℕ → Bool). U c.args.q) c.unbroken.ensures

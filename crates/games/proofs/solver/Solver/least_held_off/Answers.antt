@@ -1,10 +1,6 @@
-use Rattle.std.proofs.Common.{sym, ◌∙◌, arith}
-use Rattle.ranges.proofs.RangeLaws.{T_true, least_is, least_none}
+use Rattle.std.proofs.Common.{rules, ap, ◌∙◌}
+use Rattle.ranges.proofs.Chains.{least_found}
 use Rattle.games.proofs.solver.Solver.least_held_off.Goals as goal
 
-pub returns-then-holds_off : goal.returns-then-holds_off
-returns-then-holds_off c =
-    sym (least_is _ _ c.loop-x.x (omega (arith, c.readings-count.ensures)) (T_true _ (sym c.holds_off.ensures ∙ c.if-holds_off.true)) c.loop-x.invariant)
-
 pub returns : goal.returns
-returns c = c.readings-count.ensures ∙ sym (least_none _ _ (λ x l. c.loop-x.invariant x (omega (arith, c.readings-count.ensures))))
+returns c = search rules ∙ least_found _ _ _ c.find.result (ap (λ n. record { start = 0; end = n }) c.readings-count.ensures) c.find.ensures.ran (λ x b q k. search rules)

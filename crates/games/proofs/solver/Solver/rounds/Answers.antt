@@ -1,9 +1,7 @@
-use Rattle.std.proofs.Common.{sym, ◌∙◌}
-use Rattle.games.proofs.SolverLaws.{rounds_none, rounds_some}
+use Rattle.std.proofs.Common.{ℕ, not, eqb, ap, ◌∙◌}
+use Rattle.std.specs.Bool.{then_some}
+use Rattle.games.proofs.SolverLaws.{rounds_is}
 use Rattle.games.proofs.solver.Solver.rounds.Goals as goal
 
-pub returns-then-rank : goal.returns-then-rank
-returns-then-rank c = rounds_none c.args.self.now c.args.q (sym c.rank-rank.ensures ∙ c.if-rank.true)
-
-pub returns-else-rank : goal.returns-else-rank
-returns-else-rank c = rounds_some c.args.self.now c.args.q c.rank-rank.result c.rank-rank.ensures c.if-rank.false
+pub returns : goal.returns
+returns c = c.then_some.ensures ∙ ap (λ (r : ℕ). then_some (not (eqb r 65535)) r) c.rank-rank.ensures ∙ rounds_is c.args.self.now c.args.q

@@ -1,5 +1,5 @@
-use Rattle.std.proofs.Common.{◌≡◌, true, false, leb, Ok, Err, Result, sym, refl, ap, ◌∙◌, subst, arith}
-use Rattle.std.proofs.lemmas.Bool.{le-leb, lt-leb, cond-true, cond-false}
+use Rattle.std.proofs.Common.{leb, Ok, Err, Result, sym, ap, ◌∙◌, subst, arith}
+use Rattle.std.proofs.lemmas.Bool.{le-leb, cond-true}
 use Rattle.automata.specs.Arena.{arena_of}
 use Rattle.games.specs.declared.verdict.Verdict.{Verdict}
 use Rattle.games.specs.declared.verdict.GameFault.{GameFault}
@@ -12,28 +12,17 @@ use Rattle.games.proofs.SettledLaws.{regions_settle}
 use Rattle.games.proofs.SolverLaws.{solver_lawful}
 use Rattle.games.proofs.solver.Solver.solve.Goals as goal
 
-pub returns-then-count-gt256 : goal.returns-then-count-gt256
-returns-then-count-gt256 g c =
-    let arena = c.args.arena.now in
-    let A = arena_of g.P.Automaton g.P.Arena arena in
-    let many : leb A.n 256 ≡ false = lt-leb A.n 256 (omega (arith, c.count.ensures)) in
-    record {
-      answer = sym (cond-false (leb A.n 256) (Ok (verdict A)) (Err TooManyStates) many);
-      holds = sym (cond-false (leb A.n 256) A _ many);
-      refused = λ _. refl;
-      meant = λ few. absurd (omega (arith, c.count.ensures));
-      settled = regions_settle A (g.met.P.Automaton.enters arena);
-    }
+pub returns-then-count-gt256-clause-settled : goal.returns-then-count-gt256-clause-settled
+returns-then-count-gt256-clause-settled g c = regions_settle _ (g.met.P.Automaton.enters c.args.arena.now)
 
-pub returns : goal.returns
-returns g c =
-    let arena = c.args.arena.now in
-    let A = arena_of g.P.Automaton g.P.Arena arena in
-    let few : leb A.n 256 ≡ true = le-leb A.n 256 (omega (arith, c.count.ensures)) in
-    record {
-      answer = ap {B = Result Verdict GameFault} Ok (c.verdict.ensures ∙ ap verdict c.take_over.ensures) ∙ sym (cond-true (leb A.n 256) (Ok (verdict A)) (Err TooManyStates) few);
-      holds = c.take_over.ensures ∙ sym (cond-true (leb A.n 256) A _ few);
-      refused = λ many. absurd (omega (arith, c.count.ensures));
-      meant = λ _. subst Meant c.take_over.ensures (meant (solver_arena c.take_over.new.self) (solver_lawful c.take_over.new.self));
-      settled = regions_settle A (g.met.P.Automaton.enters arena);
-    }
+pub returns-clause-answer : goal.returns-clause-answer
+returns-clause-answer g c =
+    let A = arena_of g.P.Automaton g.P.Arena c.args.arena.now in
+    ap {B = Result Verdict GameFault} Ok (c.verdict.ensures ∙ ap verdict c.take_over.ensures)
+    ∙ sym (cond-true (leb A.n 256) (Ok (verdict A)) (Err TooManyStates) (le-leb A.n 256 (omega (arith, c.count.ensures))))
+
+pub returns-clause-meant : goal.returns-clause-meant
+returns-clause-meant g c _ = subst Meant c.take_over.ensures (meant (solver_arena c.take_over.new.self) (solver_lawful c.take_over.new.self))
+
+pub returns-clause-settled : goal.returns-clause-settled
+returns-clause-settled g c = regions_settle _ (g.met.P.Automaton.enters c.args.arena.now)

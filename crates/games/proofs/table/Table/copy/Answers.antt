@@ -1,5 +1,3 @@
-use Rattle.std.proofs.Common.{ℕ, Bool, false, List, get_or, None, Option, ap, ◌∙◌, arith}
-use Rattle.std.proofs.lemmas.List.{with_items_is}
 use Rattle.automata.specs.Arena.{arena_of}
 use Rattle.games.proofs.TableLaws.{tells_arena}
 use Rattle.games.proofs.table.Table.copy.Goals as goal
@@ -25,9 +23,4 @@ returns g c =
       no_zeroth = h.no_zeroth arena;
       right_outside = h.right_outside arena;
       right_state_outside = h.right_state_outside arena;
-    }) _ _ _
-    (record {
-      duty_at = λ q l. ap (λ (xs : List Bool). get_or xs q false) (with_items_is t.duty c.copy_duty.new.marks (omega arith)) ∙ c.copy_duty.ensures q l;
-      marks_at = λ i l. ap (λ (xs : List Bool). get_or xs i false) (with_items_is t.marks c.copy_rights.new.marks (omega arith)) ∙ c.copy_rights.ensures i l;
-      steps_at = λ i l. ap (λ (xs : List (Option ℕ)). get_or xs i None) (with_items_is t.steps c.copy_steps.new.steps (omega arith)) ∙ c.copy_steps.ensures i l;
-    }) _ _ _ _ _ c.reading_bits-self.ensures c.command_bits-self.ensures c.count-self.ensures c.start-self.ensures c.rights-self.ensures
+    }) _ c.copy_rows.ensures _ _ _ _ _ c.reading_bits-self.ensures c.command_bits-self.ensures c.count-self.ensures c.start-self.ensures c.rights-self.ensures

@@ -1,20 +1,8 @@
 use Rattle.std.proofs.Common.{◌≡◌, ℕ, ◌*◌, sym, ap, ◌∙◌, arith}
 use Rattle.ltlf.specs.Formulas.{shape}
 use Rattle.ltlf.specs.Codes.{codes}
-use Rattle.ltlf.proofs.Sides.{Sides, sides, fewer}
+use Rattle.ltlf.proofs.Sides.{Sides, sides}
 use Rattle.ltlf.proofs.formula.Formula.+codes.Goals as goal
-
-pub codes-requires-else-is_temporal-2 : goal.codes-requires-else-is_temporal-2
-codes-requires-else-is_temporal-2 t c =
-    let s = sides c.in-Binary.is (sym c.if-is_temporal-2.ensures) c.requires in
-    let d = c.deref-else-is_temporal-2.ensures in
-    (rw d (fewer c.in-Binary.is c.decreases).0, rw d s.left)
-
-pub codes-requires-else-is_temporal-2-2 : goal.codes-requires-else-is_temporal-2-2
-codes-requires-else-is_temporal-2-2 t c =
-    let s = sides c.in-Binary.is (sym c.if-is_temporal-2.ensures) c.requires in
-    let d = c.deref-else-is_temporal-2-2.ensures in
-    (rw d (fewer c.in-Binary.is c.decreases).1, rw d s.right)
 
 product : (t : ℕ) (c : goal.After-codes-else-is_temporal-2-2 t) →
     c.codes-else-is_temporal-2.result * c.codes-else-is_temporal-2-2.result ≡ codes (shape c.args.self.now)

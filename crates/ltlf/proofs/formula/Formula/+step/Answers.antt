@@ -1,14 +1,9 @@
-use Rattle.std.proofs.Common.{◌≡◌, ℕ, ◌+◌, ◌*◌, ◌/◌, ◌%◌, ◌<◌, cond, sym, ap, ◌∙◌, arith}
+use Rattle.std.proofs.Common.{◌≡◌, ℕ, ◌+◌, ◌*◌, ◌<◌, sym, ap, ◌∙◌, arith}
 use Rattle.ltlf.specs.Formulas.{Ltl, shape}
-use Rattle.ltlf.specs.Codes.{codes, shows, until_code, stepped}
+use Rattle.ltlf.specs.Codes.{codes}
 use Rattle.ltlf.specs.CodeLaws.{low, high, together, codes_some}
 use Rattle.ltlf.proofs.Sides.{Sides, sides, fewer}
 use Rattle.ltlf.proofs.formula.Formula.+step.Goals as goal
-
-pub codes-k-requires : goal.codes-k-requires
-codes-k-requires t c =
-    let s = sides c.in-Binary.is (sym c.if-is_temporal-2.ensures) c.requires.few in
-    rw c.deref-else-is_temporal-2.ensures s.left
 
 pub nonzero_rem-c : goal.nonzero_rem-c
 nonzero_rem-c t c = omega (arith, c.codes-k.ensures, codes_some (shape c.deref-else-is_temporal-2.result.now))
@@ -56,17 +51,5 @@ overflow_mul-result t c = omega (arith, bounded t c, (parted t c).small)
 pub overflow_add-result : goal.overflow_add-result
 overflow_add-result t c = omega (arith, bounded t c, (parted t c).small)
 
-pub returns-else-is_temporal-2 : goal.returns-else-is_temporal-2
-returns-else-is_temporal-2 t c =
-    let a : ℕ = c.args.a in
-    let r = c.args.round in
-    let p : Ltl = left t c in
-    let q : Ltl = right t c in
-    let k : c.codes-k.result ≡ codes p = many t c in
-    let o = c.in-Binary.op in
-    let e : stepped a c.args.first r (shape c.args.self.now) c.args.c ≡ stepped a c.args.first r p (c.args.c % codes p) + codes p * stepped a c.args.first r q (c.args.c / codes p) =
-    ap (λ f. stepped a c.args.first r (shape f) c.args.c) c.in-Binary.is
-    ∙ ap (λ b. cond b (until_code (shows a r p) (shows a r q) c.args.c) (stepped a c.args.first r p (c.args.c % codes p) + codes p * stepped a c.args.first r q (c.args.c / codes p))) (sym c.if-is_temporal-2.ensures) in
-    let eu : c.step-u.result ≡ stepped a c.args.first r p (c.args.c % codes p) = rw (c.deref-else-is_temporal-2-2.ensures, k) at c.step-u.ensures.value in
-    let ev : c.step-v.result ≡ stepped a c.args.first r q (c.args.c / codes p) = rw (c.deref-else-is_temporal-2-3.ensures, k) at c.step-v.ensures.value in
-    record { bound = bounded t c; value = cc }
+pub returns-else-is_temporal-2-clause-bound : goal.returns-else-is_temporal-2-clause-bound
+returns-else-is_temporal-2-clause-bound t c = bounded t c

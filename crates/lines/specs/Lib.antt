@@ -1,0 +1,10 @@
+pub mod Columns
+pub mod Drives
+pub mod Jobs
+pub mod LineWords
+pub mod Ranks
+pub mod Refusals
+pub mod Rules
+pub mod Texts
+pub mod Verdicts
+pub mod Words

@@ -1,7 +1,0 @@
-use Rattle.std.proofs.Common.{rules}
-use Rattle.sheets.specs.Format.{tables_of}
-use Rattle.sheets.proofs.Sheet.commands.Goals as goal
-
-pub returns : goal.returns
-unfolding tables_of
-returns c = search rules

@@ -1,7 +1,0 @@
-use Rattle.std.proofs.Common.{refl}
-use Rattle.sheets.specs.Format.{word}
-use Rattle.sheets.proofs.bytes.word_at.Goals as goal
-
-pub returns : goal.returns
-unfolding word
-returns c = refl

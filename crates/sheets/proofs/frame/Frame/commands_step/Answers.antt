@@ -1,5 +1,0 @@
-use Rattle.ranges.proofs.RangeLaws.{all_more}
-use Rattle.sheets.proofs.frame.Frame.commands_step.Goals as goal
-
-pub loop-command-preserved : goal.loop-command-preserved
-loop-command-preserved c = all_more c.loop-command.command _ c.loop-command.all c.set_steps-all.result c.loop-command.invariant c.set_steps-all.ensures
