@@ -9,7 +9,7 @@ ghost use Rattle.std.proofs.Common.{rules};
 
 use crate::arena::Arena;
 use crate::automaton::Automaton;
-use crate::pairs::{pair_count, pair_start, pair_step, product};
+use crate::pairs::{pair_start, pair_step, product};
 
 #[derive(Drop)]
 pub struct WithDuty<G, D> {
@@ -89,8 +89,10 @@ impl<G: Automaton, D: Automaton> Automaton for WithDuty<G, D> {
         self.terrain.command_bits()
     }
 
+    // The product is asked for once here and in `marked`: every layer above asks again.
     fn count(&self) -> u16 {
-        pair_count(self.fits(), &self.terrain, &self.duty)
+        let n = product(&self.terrain, &self.duty);
+        if n <= 256 { n as u16 } else { 257 }
     }
 
     fn start(&self) -> u16 {
@@ -98,9 +100,8 @@ impl<G: Automaton, D: Automaton> Automaton for WithDuty<G, D> {
     }
 
     fn marked(&self, q: u16) -> bool {
-        self.fits()
-            && (q as u32) < product(&self.terrain, &self.duty)
-            && self.duty.marked(q % self.duty.count())
+        let n = product(&self.terrain, &self.duty);
+        n <= 256 && (q as u32) < n && self.duty.marked(q % self.duty.count())
     }
 
     fn step(&self, q: u16, x: u8, y: u8) -> Option<u16> {

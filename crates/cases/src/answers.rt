@@ -2,22 +2,24 @@
 use anyhow::anyhow;
 use automata::automaton::Automaton;
 use automata::word::Round;
+use jobs::load::LoadFault;
+use jobs::read::load;
 use lines::drive::show_drive;
-use lines::job::show_job;
+use lines::job::show_arena;
 use lines::line::read_line;
-use lines::refusals::show_refusal;
+use lines::refusals::{show_job_fault, show_refusal};
 use lines::rule::{show_round, show_state};
 use lines::words::{ReadFault, read_bytes, read_pair};
 use ltlf::rule::Rule;
 use ltlf::widths::Widths;
 use planner::Planner;
-use std::alloc::Global;
+use std::alloc::{AllocError, Global};
 use std::str::Lines;
 
 fn job_message(fault: ReadFault) -> anyhow::Error {
     match fault {
         ReadFault::NotBytes => anyhow!("a job is not a list of numbers from 0 to 255"),
-        ReadFault::Memory => anyhow!("out of memory"),
+        ReadFault::Memory => AllocError.into(),
     }
 }
 
@@ -40,13 +42,18 @@ impl Planning {
         let mut job = Vec::new(heap);
         read_bytes(&mut job, input).map_err(job_message)?;
         let mut out = String::new(heap);
-        show_job(
-            &mut out,
-            heap,
-            &mut self.planner,
-            job.as_slice(),
-            self.buffer.as_mut_slice(),
-        )?;
+        match load(heap, job.as_slice()) {
+            Ok(job) => {
+                show_arena(
+                    &mut out,
+                    &mut self.planner,
+                    &job,
+                    self.buffer.as_mut_slice(),
+                )?;
+            }
+            Err(LoadFault::Refused(fault)) => show_job_fault(&mut out, fault)?,
+            Err(LoadFault::Memory) => return Err(anyhow!("out of memory")),
+        }
         Ok(out)
     }
 }
@@ -61,7 +68,15 @@ pub fn drive_answers(heap: Global, input: &str) -> anyhow::Result<String> {
 }
 
 fn pair(line: &str) -> anyhow::Result<(u8, u8)> {
-    read_pair(line).ok_or(anyhow!("a line wants two numbers"))
+    if let Some(pair) = read_pair(line) {
+        return Ok(pair);
+    }
+    let mut words = line.split_whitespace();
+    if let (Some(first), Some(second), None) = (words.next(), words.next(), words.next()) {
+        first.parse::<u64>()?;
+        second.parse::<u64>()?;
+    }
+    Err(anyhow!("a line wants two numbers"))
 }
 
 fn follow(out: &mut String, rule: &Rule, rounds: Lines) -> anyhow::Result<()> {

@@ -17,7 +17,7 @@ use lines::verdict::show_verdict;
 use lines::words::{ReadFault, read_bytes, read_capped};
 use planner::Planner;
 use planner::ground_reading::ground_reading;
-use std::alloc::Global;
+use std::alloc::{AllocError, Global};
 use std::fmt::Write;
 
 // Where the ground has come to: a state, and the column that it follows there.
@@ -120,7 +120,7 @@ fn play(heap: Global, job: &[u8], numbers: &[u8]) -> anyhow::Result<String> {
     }
 }
 
-// The bytes of the job, on the first line. There may be none.
+// The bytes of the job, on the first line.
 fn job_line(heap: Global, line: &str) -> anyhow::Result<Vec<u8>> {
     let mut job = Vec::new(heap);
     match read_bytes(&mut job, line) {
@@ -128,24 +128,28 @@ fn job_line(heap: Global, line: &str) -> anyhow::Result<Vec<u8>> {
         Err(ReadFault::NotBytes) => {
             Err(anyhow!("the first line is not a list of numbers from 0 to 255"))
         }
-        Err(ReadFault::Memory) => Err(anyhow!("out of memory")),
+        Err(ReadFault::Memory) => Err(AllocError.into()),
     }
 }
 
 // A command. A number above 255 stands as 255, which is too large for every job.
 fn command_line(line: &str) -> anyhow::Result<u8> {
-    read_capped(line.trim()).ok_or(anyhow!("a line is not a command's number"))
+    let Some(number) = read_capped(line.trim()) else {
+        return Err(anyhow!("a line is not a command's number"));
+    };
+    Ok(number)
 }
 
 fn run(rt: &HostRuntime) -> anyhow::Result<()> {
-    let mut lines = rt.lines(rt.alloc());
-    let job = match lines.next() {
-        Some(line) => job_line(rt.alloc(), line?.as_str())?,
-        None => Vec::new(rt.alloc()),
-    };
+    let mut job = Vec::new(rt.alloc());
     let mut numbers = Vec::new(rt.alloc());
-    for line in lines {
-        numbers.push(command_line(line?.as_str())?)?;
+    let mut lines = rt.lines(rt.alloc());
+    // Where there is no first line the input is at its end, and is not read again.
+    if let Some(line) = lines.next() {
+        job = job_line(rt.alloc(), line?.as_str())?;
+        for line in lines {
+            numbers.push(command_line(line?.as_str())?)?;
+        }
     }
     let out = play(rt.alloc(), job.as_slice(), numbers.as_slice())?;
     rt.print(out.as_str())?;

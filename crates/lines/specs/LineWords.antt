@@ -8,6 +8,7 @@ use Rattle.lines.specs.declared.drive.Line.{Line}
 use Rattle.lines.specs.declared.drive.Line.TheVariants.{Sheet as sheet_line, Call as call_line, Shown as shown_call, Report as report_call}
 use Rattle.lines.specs.declared.line.Word.{Word}
 use Rattle.lines.specs.declared.line.Word.TheVariants.{Shown as the_shown, Read as the_read, Command as the_command, Claim as the_claim, Stop as the_stop, Report as the_report}
+use Rattle.lines.specs.declared.words.ReadFault.TheVariants.{NotBytes, Memory}
 use Rattle.lines.specs.declared.line.LineFault.{LineFault}
 use Rattle.lines.specs.declared.line.LineFault.TheVariants.{Sheet as BadSheet, LacksNumber, NotANumber}
 
@@ -19,6 +20,13 @@ word_of w =
     (if bytes_eq w (codes "claim") then Some the_claim else
     (if bytes_eq w (codes "stop") then Some the_stop else
     (if bytes_eq w (codes "report") then Some the_report else None)))))
+
+-- what is said of a line that is not read
+abbrev pub line_message : LineFault → List ℕ
+line_message (BadSheet NotBytes) = codes "a line is neither a call nor a list of numbers from 0 to 255"
+line_message (BadSheet Memory) = codes "memory allocation failed"
+line_message LacksNumber = codes "a call lacks its number"
+line_message NotANumber = codes "a call's number is none"
 
 -- the number of a call is its next word; there may be none, or one that is no number
 abbrev pub ReadsNumber : List ℕ → Result ℕ LineFault → Type 0

@@ -1,8 +1,8 @@
 // A line of a drive's input.
-ghost use Rattle.std.specs.Prelude.{◌≡◌, List, ◌++◌};
+ghost use Rattle.std.specs.Prelude.{◌≡◌, List, ◌++◌, Some};
 ghost use Rattle.std.specs.Str.Iter.{split_whitespace_rest};
 ghost use Rattle.lines.specs.declared.line.LineFault.TheVariants.{Sheet as BadSheet};
-ghost use Rattle.lines.specs.LineWords.{word_of, ReadsNumber, ReadsSheet, ReadsLine};
+ghost use Rattle.lines.specs.LineWords.{word_of, line_message, ReadsNumber, ReadsSheet, ReadsLine};
 
 use crate::drive::Line;
 use crate::words::{ReadFault, read_bytes, read_capped};
@@ -23,13 +23,16 @@ pub enum LineFault {
     NotANumber,
 }
 
+// A fault prints as its message.
 impl fmt::Display for LineFault {
+    ghost output = { λ e. Some (line_message e) };
+
     fn fmt<W: fmt::Write>(&self, f: &mut fmt::Formatter<W>) -> fmt::Result {
         f.write_str(match self {
             LineFault::Sheet(ReadFault::NotBytes) => {
                 "a line is neither a call nor a list of numbers from 0 to 255"
             }
-            LineFault::Sheet(ReadFault::Memory) => "out of memory",
+            LineFault::Sheet(ReadFault::Memory) => "memory allocation failed",
             LineFault::LacksNumber => "a call lacks its number",
             LineFault::NotANumber => "a call's number is none",
         })

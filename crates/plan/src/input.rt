@@ -1,6 +1,7 @@
 // The numbers on standard input.
 use anyhow::anyhow;
 use lines::words::{ReadFault, read_bytes};
+use std::alloc::AllocError;
 
 // Each is a byte.
 pub fn read_numbers(rt: &(impl Input + AllocGlobal)) -> anyhow::Result<Vec<u8>> {
@@ -11,7 +12,7 @@ pub fn read_numbers(rt: &(impl Input + AllocGlobal)) -> anyhow::Result<Vec<u8>> 
             Err(ReadFault::NotBytes) => {
                 return Err(anyhow!("standard input is not a list of numbers from 0 to 255"));
             }
-            Err(ReadFault::Memory) => return Err(anyhow!("out of memory")),
+            Err(ReadFault::Memory) => return Err(AllocError.into()),
         }
     }
     Ok(bytes)

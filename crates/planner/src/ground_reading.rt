@@ -41,7 +41,12 @@ fn is_whole(sheet: &[u8]) -> bool
 pub fn ground_reading(sheet: &[u8], column: u8, state: u16) -> Option<u8>
     ensures { result ≡ ground_reading sheet.now column state }
 {
+    if !is_whole(sheet) {
+        return None;
+    }
     let count = word_at(sheet, 6);
-    let place = 16 + (column as usize * count as usize + state as usize);
-    (is_whole(sheet) && column <= byte_at(sheet, 5) && state < count).then(|| byte_at(sheet, place))
+    if column > sheet[5] || state >= count {
+        return None;
+    }
+    Some(sheet[16 + (column as usize * count as usize + state as usize)])
 }

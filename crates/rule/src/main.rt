@@ -3,9 +3,7 @@
 
 use anyhow::anyhow;
 use automata::automaton::Automaton;
-use automata::word::Round;
-use lines::refusals::show_refusal;
-use lines::rule::{show_round, show_state};
+use lines::rule::StateLine;
 use lines::words::read_pair;
 use ltlf::fault::RuleFault;
 use ltlf::rule::Rule;
@@ -48,15 +46,12 @@ fn text_line(heap: Global, input: &mut impl BufRead) -> anyhow::Result<Vec<u8>> 
 
 // Shows the start and the state after each round, up to one that is out of range.
 fn follow(rt: &HostRuntime, rule: &Rule, input: BufReader<Stdin>) -> anyhow::Result<()> {
-    let mut out = String::new(rt.alloc());
     let mut q = rule.start();
-    show_state(&mut out, rule, q)?;
-    rt.print(out.as_str())?;
+    rt.print(StateLine::of(rule, Some(q)))?;
     for line in input.lines(rt.alloc()) {
         let (reading, command) = pair(line?.as_str())?;
-        out.clear();
-        let next = show_round(&mut out, rule, q, Round { reading, command })?;
-        rt.print(out.as_str())?;
+        let next = rule.step(q, reading, command);
+        rt.print(StateLine::of(rule, next))?;
         match next {
             Some(state) => q = state,
             None => break,
@@ -65,11 +60,11 @@ fn follow(rt: &HostRuntime, rule: &Rule, input: BufReader<Stdin>) -> anyhow::Res
     Ok(())
 }
 
-fn refuse(rt: &HostRuntime, fault: RuleFault) -> anyhow::Result<()> {
-    let number = fault.number().ok_or(anyhow!("no memory"))?;
-    let mut out = String::new(rt.alloc());
-    show_refusal(&mut out, number)?;
-    rt.print(out.as_str())?;
+fn refuse(rt: &impl Print, fault: RuleFault) -> anyhow::Result<()> {
+    let Some(number) = fault.number() else {
+        return Err(anyhow!("no memory"));
+    };
+    println!(rt; "refused {number}")?;
     Ok(())
 }
 

@@ -3,7 +3,7 @@ use Rattle.std.proofs.Common.{◌≡◌, ℕ, ◌+◌, ◌*◌, ◌%◌, ◌^◌
 use Rattle.std.proofs.lemmas.Nat.{mul-le, mul-add-lt}
 use Rattle.std.proofs.lemmas.Bool.{and_parts}
 use Rattle.std.proofs.lemmas.Bool.Decides.{nat_tests}
-use Rattle.sheets.specs.Format.{byte, word, reading_bits, command_bits, rights, count, start, steps_at, ranks_at, sets_at, total}
+use Rattle.sheets.specs.Format.{byte, word, reading_bits, command_bits, readings, commands, rights, count, start, steps_at, ranks_at, sets_at, total}
 use Rattle.sheets.specs.Whole.{header_fits, laid_out, states_fit, sets_fit, whole}
 use Rattle.sheets.specs.Headers.{header_of}
 use Rattle.sheets.specs.Framed.{framed}
@@ -96,6 +96,61 @@ within bs l = grind (arith, nat_tests)
 module _ (bs : List ℕ) (h : header_fits bs ≡ true) where
   pub sizes_of : Sizes (reading_bits bs) (command_bits bs) (rights bs) (count bs)
   sizes_of = let d = bounds bs h in sizes (reading_bits bs) (command_bits bs) (rights bs) (count bs) d.few_reading_bits d.few_command_bits d.few_rights d.few_states
+
+-- the place of a field of two bytes, and of one
+pub record Place (bs : List ℕ) (p : ℕ) : Type 0 where
+  pub small : p + 2 ≤ 65536
+  pub inside : p + 2 ≤ length bs
+
+pub record Byte (bs : List ℕ) (p : ℕ) : Type 0 where
+  pub small : p + 1 ≤ 65536
+  pub inside : p + 1 ≤ length bs
+
+module _ (bs : List ℕ) (h : header_fits bs ≡ true) (l : laid_out bs ≡ true) where
+  step_place : (q x y : ℕ) → q < count bs → x < readings bs → y < commands bs → Place bs (steps_at bs + 2 * ((q * readings bs + x) * commands bs + y))
+  step_place q x y hq hx hy =
+      let z = sizes_of bs h in
+      let d = bounds bs h in
+      let w = within bs l in
+      let p = cell_in (count bs) (readings bs) (commands bs) q x y hq hx hy in
+      record { small = omega arith; inside = omega arith }
+
+  rank_place : (c q : ℕ) → c ≤ rights bs → q < count bs → Place bs (ranks_at bs + 2 * (c * count bs + q))
+  rank_place c q hc hq =
+      let z = sizes_of bs h in
+      let d = bounds bs h in
+      let w = within bs l in
+      let c' : c < rights bs + 1 = omega arith in
+      let p = row_in (rights bs + 1) (count bs) c q c' hq in
+      record { small = omega arith; inside = omega arith }
+
+  set_place : (c q x : ℕ) → c ≤ rights bs → q < count bs → x < readings bs → Byte bs (sets_at bs + ((c * count bs + q) * readings bs + x))
+  set_place c q x hc hq hx =
+      let z = sizes_of bs h in
+      let d = bounds bs h in
+      let w = within bs l in
+      let c' : c < rights bs + 1 = omega arith in
+      let p = cell_in (rights bs + 1) (count bs) (readings bs) c q x c' hq hx in
+      record { small = omega arith; inside = omega arith }
+
+-- the same in the numbers that a frame holds
+pub frame_step : (f : Frame) (q x y : ℕ) → q < count (framed f) → x < readings (framed f) → y < commands (framed f) → Place (framed f) (f.header.places.steps + 2 * ((q * f.header.readings + x) * f.header.commands + y))
+frame_step f q x y hq hx hy = go f.header f.told
+  where
+    go : (s : Header) → s ≡ header_of (framed f) → Place (framed f) (s.places.steps + 2 * ((q * s.readings + x) * s.commands + y))
+    go s e = rw e (step_place (framed f) f.fits f.laid q x y hq hx hy)
+
+pub frame_rank : (f : Frame) (c q : ℕ) → c ≤ rights (framed f) → q < count (framed f) → Place (framed f) (f.header.places.ranks + 2 * (c * f.header.count + q))
+frame_rank f c q hc hq = go f.header f.told
+  where
+    go : (s : Header) → s ≡ header_of (framed f) → Place (framed f) (s.places.ranks + 2 * (c * s.count + q))
+    go s e = rw e (rank_place (framed f) f.fits f.laid c q hc hq)
+
+pub frame_set : (f : Frame) (c q x : ℕ) → c ≤ rights (framed f) → q < count (framed f) → x < readings (framed f) → Byte (framed f) (f.header.places.sets + ((c * f.header.count + q) * f.header.readings + x))
+frame_set f c q x hc hq hx = go f.header f.told
+  where
+    go : (s : Header) → s ≡ header_of (framed f) → Byte (framed f) (s.places.sets + ((c * s.count + q) * s.readings + x))
+    go s e = rw e (set_place (framed f) f.fits f.laid c q x hc hq hx)
 
 -- the numbers of a frame are small
 pub record Small (h : Header) : Type 0 where

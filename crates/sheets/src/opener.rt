@@ -1,6 +1,5 @@
 // Opening a sheet.
 ghost use Rattle.std.specs.Prelude.{◌≡◌, true, false, if◌then◌else◌};
-ghost use Rattle.std.specs.Option.{MatchOption};
 ghost use Rattle.sheets.specs.Whole.{leads, header_fits, laid_out, whole};
 ghost use Rattle.sheets.specs.Placed.{places_of};
 ghost use Rattle.sheets.specs.Format.{reading_bits, command_bits, rights, count};
@@ -14,7 +13,7 @@ use crate::fault::SheetFault;
 use crate::frame::Frame;
 use crate::header::Header;
 use crate::layout::{Places, lay_out};
-use crate::words::word_at;
+use crate::words::{word_at, word_within};
 
 // The header, and then an unlawful reading, no step, no rank and an empty set.
 const BUILT_IN: [u8; 26] = [
@@ -32,13 +31,16 @@ fn leads(bytes: &[u8]) -> bool
 fn header_fits(bytes: &[u8]) -> bool
     ensures { result ≡ header_fits bytes.now }
 {
-    let count = word_at(bytes, 6);
-    leads(bytes)
-        && bytes[3] <= 3
-        && bytes[4] <= 3
-        && bytes[5] <= 4
-        && (1..=256).contains(&count)
-        && word_at(bytes, 8) < count
+    if !leads(bytes) {
+        return false;
+    }
+    let count = word_within(bytes, 6);
+    (bytes[3] <= 3)
+        & (bytes[4] <= 3)
+        & (bytes[5] <= 4)
+        & (1 <= count)
+        & (count <= 256)
+        & (word_within(bytes, 8) < count)
 }
 
 // The numbers of a header that is in order.
@@ -48,13 +50,13 @@ fn header(bytes: &[u8]) -> Header
 {
     let readings = 1 << bytes[3];
     let commands = 1 << bytes[4];
-    let count = word_at(bytes, 6);
+    let count = word_within(bytes, 6);
     Header {
         reading_bits: bytes[3],
         command_bits: bytes[4],
         rights: bytes[5],
         count,
-        start: word_at(bytes, 8),
+        start: word_within(bytes, 8),
         readings,
         commands,
         places: lay_out(readings, commands, bytes[5], count),
@@ -74,20 +76,29 @@ fn laid_out(bytes: &[u8], places: Places) -> bool
         && places.total <= bytes.len()
 }
 
-// The frame of a well-formed sheet.
-#[tactic(auto, unfolding(crate::specs::Whole::whole))]
-fn whole_frame<'a>(bytes: &'a [u8]) -> Option<Frame<'a>>
-    ensures { MatchOption result (whole bytes.now ≡ false) (λ f. (framed f ≡ bytes.now) × (whole bytes.now ≡ true)) }
+fn frame<'a>(bytes: &'a [u8]) -> Frame<'a>
+    requires fits { header_fits bytes.now ≡ true }
+    requires laid { laid_out bytes.now ≡ true }
+    ensures { framed result ≡ bytes.now }
+{
+    Frame {
+        bytes,
+        header: header(bytes),
+    }
+}
+
+// Whether the bytes are a well-formed sheet.
+fn is_whole(bytes: &[u8]) -> bool
+    ensures { result ≡ whole bytes.now }
 {
     if !header_fits(bytes) {
-        return None;
+        return false;
     }
-    let header = header(bytes);
-    if !laid_out(bytes, header.places) {
-        return None;
+    if !laid_out(bytes, header(bytes).places) {
+        return false;
     }
-    let frame = Frame { bytes, header };
-    (frame.states_fit() && frame.sets_fit()).then_some(frame)
+    let frame = frame(bytes);
+    frame.states_fit() & frame.sets_fit()
 }
 
 impl<'a> Sheet<'a> {
@@ -96,10 +107,7 @@ impl<'a> Sheet<'a> {
         ensures { bytes_of result ≡ built_in }
     {
         Sheet {
-            frame: Frame {
-                bytes: &BUILT_IN,
-                header: header(&BUILT_IN),
-            },
+            frame: frame(&BUILT_IN),
         }
     }
 
@@ -113,10 +121,12 @@ impl<'a> Sheet<'a> {
         ensures once { EqualSheets }
         ensures behind { BehindIgnored }
     {
-        let Some(frame) = whole_frame(bytes) else {
+        if !is_whole(bytes) {
             return Err(SheetFault::Malformed);
+        }
+        *self = Sheet {
+            frame: frame(bytes),
         };
-        *self = Sheet { frame };
         Ok(())
     }
 }

@@ -10,5 +10,5 @@ returns c =
     let d = bounds bs c.requires in
     let r = power_small (reading_bits bs) d.few_reading_bits in
     let m = power_small (command_bits bs) d.few_command_bits in
-    let p = c.lay_out.ensures ∙ ap₂ (λ x y. places_for x y (rights bs) c.word_at-count.result) r m in
+    let p = c.lay_out.ensures ∙ ap₂ (λ x y. places_for x y (rights bs) c.word_within-count.result) r m in
     search rules

@@ -1,11 +1,5 @@
-use Rattle.std.proofs.Common.{ℕ, Bool, ◌+◌, ap, ◌∙◌, rules, refl}
-use Rattle.ranges.specs.Ranges.{all}
-use Rattle.ranges.proofs.Chains.{all_below}
-use Rattle.sheets.specs.Whole.{column_fits}
-use Rattle.sheets.specs.declared.header.Header.{Header}
+use Rattle.sheets.proofs.Turns.{all_more}
 use Rattle.sheets.proofs.frame.Frame.sets_fit.Goals as goal
 
-pub returns : goal.returns
-returns c =
-    let test : ℕ → Bool = (λ k. column_fits c.args.self.now.bytes.now k) in
-    all_below _ test refl c.all.ensures.ran (λ x b q k. search rules) ∙ ap (λ (h : Header). all (h.rights + 1) test) c.args.self.now.told
+pub loop-column-preserved : goal.loop-column-preserved
+loop-column-preserved c = all_more c.loop-column.column _ c.loop-column.all c.column_fits-all.result c.loop-column.invariant c.column_fits-all.ensures

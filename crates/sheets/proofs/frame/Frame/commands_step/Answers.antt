@@ -1,0 +1,5 @@
+use Rattle.sheets.proofs.Turns.{all_more}
+use Rattle.sheets.proofs.frame.Frame.commands_step.Goals as goal
+
+pub loop-command-preserved : goal.loop-command-preserved
+loop-command-preserved c = all_more c.loop-command.command _ c.loop-command.all c.set_steps-all.result c.loop-command.invariant c.set_steps-all.ensures
