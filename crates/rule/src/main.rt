@@ -3,6 +3,7 @@
 
 use anyhow::anyhow;
 use automata::automaton::Automaton;
+use lines::refusals::RefusalLine;
 use lines::rule::StateLine;
 use lines::words::read_pair;
 use ltlf::fault::RuleFault;
@@ -64,7 +65,7 @@ fn refuse(rt: &impl Print, fault: RuleFault) -> anyhow::Result<()> {
     let Some(number) = fault.number() else {
         return Err(anyhow!("no memory"));
     };
-    println!(rt; "refused {number}")?;
+    rt.print(RefusalLine { number })?;
     Ok(())
 }
 
